@@ -98,8 +98,7 @@ units_of (Byte b ∷ []) fit =
     subst (HasUnits (Byte b ∷ [])) (append-nil (single b))
     (one_more (single b) (Byte b ∷ []) [] [] (single_spells b fit.0 []) (λ one begins. begins) (units_of [] tt))
 units_of (Byte b ∷ Fnc1 ∷ m) fit =
-    one_more (single b) (Byte b ∷ []) (Fnc1 ∷ m) (ascii (Fnc1 ∷ m)) (single_spells b fit.0 []) (λ one begins. begins)
-    (units_of (Fnc1 ∷ m) fit.1)
+    one_more _ _ _ _ (single_spells b fit.0 []) (λ one begins. begins) (units_of (Fnc1 ∷ m) fit.1)
 units_of (Byte b ∷ Byte c ∷ m) fit =
     both (is_digit b) (is_digit c) refl refl (units_of m fit.1.1) (units_of (Byte c ∷ m) fit.1) where
       both : (s t : Bool) → is_digit b ≡ s → is_digit c ≡ t → HasUnits m (ascii m)
@@ -165,10 +164,7 @@ single_bytes b lt = by_test (ltb b 128) refl where
 
 -- The codeword of two digits is 0 to 255.
 pair_byte : (b c : ℕ) → is_digit b ≡ true → is_digit c ≡ true → digit_pair b c < 256
-pair_byte b c hb hc =
-    let lb : b ≤ 57 = grind (arith, nat_tests) in
-    let lc : c ≤ 57 = grind (arith, nat_tests) in
-    omega arith
+pair_byte b c hb hc = grind (arith, nat_tests)
 
 -- The form from the left of a message is a list of codewords.
 pub ascii_bytes : (m : List Item) → AreItems m → AreBytes (ascii m)
@@ -206,15 +202,7 @@ shift_is w e = grind (arith, nat_tests)
 -- A byte that isn't taken together with the next one stands alone.
 ascii_single : (b : ℕ) (rest : List Item) → (IsTrue (is_digit b) → BeginsWithDigit rest → ⊥) → ascii (Byte b ∷ rest)
     ≡ single b ++ ascii rest
-ascii_single b [] apart = sym (append-nil (single b))
-ascii_single b (Fnc1 ∷ rest) apart = refl
-ascii_single b (Byte c ∷ rest) apart = not_pair (is_digit b) (is_digit c) apart where
-  not_pair : (s t : Bool) → (IsTrue s → IsTrue t → ⊥)
-      → cond (s && t) (digit_pair b c ∷ ascii rest) (single b ++ ascii (Byte c ∷ rest)) ≡ single b
-      ++ ascii (Byte c ∷ rest)
-  not_pair true true no_pair = absurd (no_pair refl refl)
-  not_pair true false no_pair = refl
-  not_pair false t no_pair = refl
+ascii_single b rest h1 = grind (arith, nat_tests, append-nil, is_digit, digit_pair)
 
 -- Two digits that come first are taken together.
 ascii_pair : (b c : ℕ) (rest : List Item) → is_digit b ≡ true → is_digit c ≡ true → ascii (Byte b ∷ Byte c ∷ rest)

@@ -21,8 +21,7 @@ items_first : (seen place : ℕ) (words after : List ℕ) (items rest : List Ite
     → IsPart Wide place words after items → StartAt (seen + length items) marks
     → 2 * length rest + 4 * length marks ≤ never → marked_cost (seen + length items) rest marks ≤ length after
     → marked_cost seen (items ++ rest) marks ≤ length words + length after
-items_first seen place words after items rest [] p starts few le =
-    part_no_fewer 0 place words after items rest (omega arith) p le
+items_first seen place words after items rest [] p starts few le = part_no_fewer 0 _ _ _ _ rest (omega arith) p le
 items_first seen place words after items rest (m ∷ marks) p starts few le =
     let count = m.place - (seen + length items) in
     let b = length (mark_words m) + marked_cost m.place (drop count rest) marks in
@@ -35,8 +34,7 @@ items_first seen place words after items rest (m ∷ marks) p starts few le =
     let n : m.place - seen ≡ length items + count = omega (arith, starts) in
     let first : take (m.place - seen) (items ++ rest) ≡ items ++ take count rest =
     ap (λ (k : ℕ). take k (items ++ rest)) n ∙ take-append-add items rest count in
-    let others : drop (m.place - seen) (items ++ rest) ≡ drop count rest =
-    ap (λ (k : ℕ). drop k (items ++ rest)) n ∙ drop-append-add items rest count in
+    let others : drop (m.place - seen) (items ++ rest) ≡ drop count rest = cc (drop-append-add items rest count) in
     let one = part_no_fewer b place words after items (take count rest) small p le in
     rw (first, others) one
 
@@ -67,10 +65,7 @@ fewer seen (Number number) rest few = omega (arith, few)
 -- A mark costs its codewords.
 mark_first : (seen number : ℕ) (rest : List Said)
     → said_cost seen (Number number ∷ rest) ≡ length (eci_word ∷ designator number) + said_cost seen rest
-mark_first seen number rest =
-    let none : seen - seen ≡ 0 = omega arith in
-    let m : Mark = record { place = seen; number = number } in
-    rw none (nothing_costs (before_words (length (mark_words m) + said_cost seen rest)))
+mark_first seen number rest = grind (arith, nothing_costs, before_words, mark_words, said_cost)
 
 -- A part and what is said behind it have no fewer codewords than they cost.
 part_first : (seen place : ℕ) (words after : List ℕ) (said : Said) (rest : List Said)
@@ -79,18 +74,14 @@ part_first : (seen place : ℕ) (words after : List ℕ) (said : Said) (rest : L
     → said_cost seen (said ∷ rest) ≤ length words + length after
 part_first seen place words after said rest (part items p is) few le =
     let here : IsFew seen (Items items ∷ rest) = subst (λ (s : Said). IsFew seen (s ∷ rest)) is few in
-    let there : said_cost (seen + length items) rest ≤ length after =
-    subst (λ (s : Said). said_cost (seen_after seen s) rest ≤ length after) is le in
-    subst (λ (s : Said). said_cost seen (s ∷ rest) ≤ length words + length after) (sym is)
-    (items_first seen place words after items (said_items rest) (said_marks (seen + length items) rest) p
+    let there : said_cost (seen + length items) rest ≤ length after = rw is at le in
+    rw is (items_first seen place words after items (said_items rest) (said_marks (seen + length items) rest) p
     (starts (seen + length items) (seen + length items) rest (omega arith)) (fewer seen (Items items) rest here) there)
 part_first seen place words after said rest (mark d number wide e whole is) few le =
-    let there : said_cost seen rest ≤ length after =
-    subst (λ (s : Said). said_cost (seen_after seen s) rest ≤ length after) is le in
+    let there : said_cost seen rest ≤ length after = rw is at le in
     let count : length words ≡ length (eci_word ∷ designator number) =
     ap length (whole ∙ ap (λ (l : List ℕ). eci_word ∷ l) (designator_only d number e)) in
-    subst (λ (s : Said). said_cost seen (s ∷ rest) ≤ length words + length after) (sym is)
-    (omega (arith, mark_first seen number rest, there, count))
+    rw is (omega (arith, mark_first seen number rest, there, count))
 
 -- Nor do parts that are joined.
 joined_lower : (seen place : ℕ) (ps : List (Piece Said)) (after : List ℕ) → AreJoined (IsContentPart Wide) place ps
@@ -145,8 +136,7 @@ module _ (words : List ℕ) (l : ContentView) (cost : ℕ) (few : 2 * length l.i
       record { first = s.opened.first; digit = digit; more = s.more; is_frame = f; whole = s.opened.whole } in
       let items : l.items ≡ macro_text digit text = ap (λ (k : ContentView). k.items) e in
       let marks : l.marks ≡ said_marks 7 s.said = ap (λ (k : ContentView). k.marks) e in
-      let in_order : AreMarks 7 (7 + length text) l.marks =
-      rw marks (said_in_order Wide 7 s.place s.more s.said s.parts) in
+      let in_order : AreMarks 7 (7 + length text) l.marks = rw marks (said_in_order _ 7 _ _ _ s.parts) in
       let c : cost ≤ 1 + said_cost 7 s.said =
       (rw marks at (least.framed f.word digit text f.is_macro (ap (λ (k : ContentView). k.head) e) items
       (λ fnc1. no_fnc1 (digit, text, items, fnc1) begins) in_order)) in

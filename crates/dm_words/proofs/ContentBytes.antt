@@ -47,9 +47,8 @@ form_bytes : (profile : Profile) (said : Option Head) (items : List Item) (marks
 form_bytes profile None items [] right fit are = normal_form_bytes profile items fit
 form_bytes profile None items (m ∷ marks) right fit are = marked_bytes 0 (length items) items (m ∷ marks) fit are
 form_bytes profile (Some said) items marks right fit are =
-    AreBytes-append (head_words (Some said)) (ascii_with_marks 0 items marks)
-    (head_bytes (head_words (Some said)) said (head_says said right)) (marked_bytes 0
-    (length items) items marks fit are)
+    AreBytes-append (head_words (Some said)) (ascii_with_marks 0 items marks) (head_bytes _ _ (head_says said right))
+    (marked_bytes 0 (length items) items marks fit are)
 
 -- The codewords of the normal form with pads are bytes.
 pub content_form_codewords : (profile : Profile) (l : ContentView) (count : ℕ) → IsContent l

@@ -53,15 +53,13 @@ units_free (u ∷ us) rest each h =
 units_words : (us : List (Piece (List Item))) (rest : List (Piece Said)) → spelled (units_then us rest) ≡ spelled us
     ++ spelled rest
 units_words [] rest = refl
-units_words (u ∷ us) rest = ap (λ (r : List ℕ). u.words ++ r) (units_words us rest)
-    ∙ sym (append_assoc u.words (spelled us) (spelled rest))
+units_words (u ∷ us) rest = cc (units_words us rest, append_assoc u.words (spelled us) (spelled rest))
 
 -- Their items.
 units_items : (us : List (Piece (List Item))) (rest : List (Piece Said)) → said_items (whats (units_then us rest))
     ≡ gathered us ++ said_items (whats rest)
 units_items [] rest = refl
-units_items (u ∷ us) rest = ap (λ (r : List Item). u.what ++ r) (units_items us rest)
-    ∙ sym (append_assoc u.what (gathered us) (said_items (whats rest)))
+units_items (u ∷ us) rest = cc (units_items us rest, append_assoc u.what (gathered us) (said_items (whats rest)))
 
 -- The marks behind them.
 units_marks : (before : ℕ) (us : List (Piece (List Item))) (rest : List (Piece Said))
@@ -117,8 +115,7 @@ pub parts_of : (before : ℕ) (items : List Item) (marks : List Mark) → AreIte
     → AreMarks before (before + length items) marks → HasParts before items marks (ascii_with_marks before items marks)
 parts_of before items [] fit are =
     let h = ascii_parts before items [] [] [] fit tt refl refl in
-    subst (λ (i : List Item). HasParts before i [] (ascii items)) (append-nil items)
-    (subst (λ (w : List ℕ). HasParts before (items ++ []) [] w) (append-nil (ascii items)) h)
+    rw (append-nil items) at (subst (λ (w : List ℕ). HasParts before (items ++ []) [] w) (append-nil (ascii items)) h)
 parts_of before items (m ∷ marks) fit are =
     let n = m.place - before in
     let within = marks_within m.place (before + length items) marks are.2 in
@@ -131,15 +128,13 @@ parts_of before items (m ∷ marks) fit are =
     let p : Piece Said = record { words = mark_words m; what = Number m.number } in
     let free : IsFree p =
     λ place after. plainly.mark (designator m.number) m.number (designator_says m.number are.1) refl refl in
-    let first = same_mark m (before + length (take n items)) there in
     let marked : said_marks (before + length (take n items)) (whats (p ∷ r.parts)) ≡ m ∷ marks =
     ap (λ (k : ℕ). (let q : Mark = record { place = k; number = m.number } in q) ∷ said_marks k (whats r.parts)) there
     ∙ ap (λ (ms : List Mark). m ∷ ms) r.marks_are in
     let h = ascii_parts before (take n items) (p ∷ r.parts) (mark_words m
     ++ ascii_with_marks m.place (drop n items) marks) (m ∷ marks) fits.0 (free, r.free)
     (ap (λ (w : List ℕ). mark_words m ++ w) r.whole) marked in
-    subst (λ (i : List Item). HasParts before i (m ∷ marks) (ascii_with_marks before items (m ∷ marks)))
-    (ap (λ (i : List Item). take n items ++ i) r.items_are ∙ take-append-drop n items) h
+    rw (ap (λ (i : List Item). take n items ++ i) r.items_are ∙ take-append-drop n items) at h
 
 -- Parts that say this, and pads behind them, from a place on.
 content_parts : (place first count : ℕ) (ps : List (Piece Said)) (words : List ℕ) → AllByRecursion IsFree ps → words
@@ -161,9 +156,7 @@ marked_says items marks count fit are =
     let words = ascii_with_marks 0 items marks in
     let whole : length items ≡ 0 + length items = omega arith in
     let h = parts_of 0 items marks fit (subst (λ (k : ℕ). AreMarks 0 k marks) whole are) in
-    subst (λ (ms : List Mark). Says Wide (padded words count) (record { head = None; items = items; marks = ms }))
-    h.marks_are
-    (plain_content Wide (padded words count) (whats h.parts) items
+    rw h.marks_are at (plain_content Wide (padded words count) (whats h.parts) items
     (content_parts 1 (length words + 1) (count - length words) h.parts words h.free h.whole) h.items_are)
 
 -- A content with a head is said by its form.

@@ -22,12 +22,7 @@ use Rattle.dm_words.proofs.EciCounts.{mark_count, taken_away, no_more_left}
 
 -- What one part says and then others is what all of them say.
 with_extended : (l : ContentView) (s : Said) (rest : List Said) → extended (with_said l s) rest ≡ extended l (s ∷ rest)
-with_extended l (Items items) rest =
-    let count : length (l.items ++ items) ≡ length l.items + length items = length-append l.items items in
-    rw (append_assoc l.items items (said_items rest), count) refl
-with_extended l (Number number) rest =
-    let m : Mark = record { place = length l.items; number = number } in
-    rw (append_assoc l.marks (m ∷ []) (said_marks (length l.items) rest)) refl
+with_extended l s rest = grind (arith, length-append, append_assoc, said_items, said_marks)
 
 -- Reading on takes the first part.
 pub content_on-takes : (extent : Extent) (so_far : ContentView) (place : ℕ) (words : List ℕ) (n : ℕ) (said : Said)
@@ -104,12 +99,7 @@ stays most words at n old new (Number number) v room left some is =
 -- How many items there are after a part was taken.
 counted : (n : ℕ) (old new : ContentView) (said : Said) → HasRoom n said → new
     ≡ with_said old said → length new.items ≤ length old.items + 2 * n
-counted n old new (Items items) room is =
-    let message : new.items ≡ old.items ++ items = ap (λ (l : ContentView). l.items) is in
-    rw message (omega (arith, room, length-append old.items items))
-counted n old new (Number number) room is =
-    let message : new.items ≡ old.items = ap (λ (l : ContentView). l.items) is in
-    rw message (omega arith)
+counted n old new said h1 h2 = grind (arith, length-append)
 
 -- After a turn of the loop that takes a part, this is known.
 pub record Leaves (extent : Extent) (most : ℕ) (words : List ℕ) (start at n : ℕ) (first new : ContentView)
@@ -134,8 +124,7 @@ goes_on extent most words start at n first old new total fit in_range v count to
     let r = (content_part_sound extent).right (at + 1) (drop at words) n said fits took.1 in
     let long : length (take n (drop at words)) ≡ n = omega (arith, length-take n (drop at words), r.2) in
     let room : HasRoom n said =
-    subst (λ (k : ℕ). HasRoom k said) long
-    (room_by extent (at + 1) (take n (drop at words)) (drop n (drop at words)) said r.0) in
+    rw long at (room_by extent (at + 1) (take n (drop at words)) (drop n (drop at words)) said r.0) in
     let once = content_on-takes extent old (at + 1) (drop at words) n said fits took.1 in
     let place : (at + 1) + n ≡ at + n + 1 = omega arith in
     let rest : drop n (drop at words) ≡ drop (at + n) words = drop-drop n at words in
@@ -152,8 +141,7 @@ pub stops_on : (extent : Extent) (words : List ℕ) (at : ℕ) (old : ContentVie
     (total : Result ContentView ContentFault)
     → first_content_part extent (at + 1) (drop at words) ≡ Stops why → content_on extent old (at + 1) (drop at words)
     ≡ total → total ≡ content_to old why
-stops_on extent words at old why total e so_far = sym so_far
-    ∙ content_on-stops extent old (at + 1) (drop at words) why e
+stops_on extent words at old why total e so_far = cc (content_on-stops extent old (at + 1) (drop at words) why e)
 
 -- ---- parts of one codeword
 
@@ -200,15 +188,11 @@ one_word_turn words start at word first old new fit room here taken so_far =
       said = λ extent marks. (
           let took = taken extent (at + 1) more in
           let behind : first_content_part extent (at + 1) (word ∷ more) ≡ Takes 1 (Items took.0) =
-          as_part extent (at + 1) word more (λ wide. no_eci extent (at + 1) word 1 more took.0 took.1)
-          ∙ ap as_said took.1 in
-          let found : first_content_part extent (at + 1) (drop at words) ≡ Takes 1 (Items took.0) =
-          ap (first_content_part extent (at + 1)) here ∙ behind in
+          cc (as_part extent (at + 1) word more (λ wide. no_eci extent (at + 1) word 1 more took.0 took.1), took.1) in
+          let found : first_content_part extent (at + 1) (drop at words) ≡ Takes 1 (Items took.0) = cc in
           let once = content_on-takes extent (items_with marks old) (at + 1) (drop at words) 1 (Items took.0) fits
           found in
-          let behind_it = subst (λ (r : List ℕ). content_on extent (items_with marks old) (at + 1) (drop at words)
-          ≡ content_on extent (with_said (items_with marks old) (Items took.0)) (at + 1 + 1) r) (drop-drop 1 at words)
-          once in
+          let behind_it = rw (drop-drop 1 at words) at once in
           rw took.2 (sym behind_it ∙ so_far extent marks)
           );
     }

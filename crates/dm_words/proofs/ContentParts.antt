@@ -5,7 +5,6 @@ use Rattle.dm_words.proofs.Names.{Extent, Usual, Wide, Item, WordFault, Designat
 use Rattle.dm_words.proofs.Names.{pad, Said, Items, Number, IsContentPart, part, mark, BeginNoEci, IsContentFault, word}
 use Rattle.dm_words.proofs.Names.{Step, Takes, Stops, first_part, first_designator, as_said, mark_by}
 use Rattle.dm_words.proofs.Names.{first_content_part}
-use Rattle.dm_words.specs.declared.codeword.Codeword.TheVariants as codeword
 use Rattle.dm_words.specs.declared.contents.fault.ContentFault.TheVariants as fault
 use Rattle.dm_words.specs.Parts.{nothing}
 use Rattle.dm_words.specs.Contents.{designator}
@@ -118,8 +117,6 @@ as_part Wide place w more other = by_test (w == 241) refl where
 pub no_eci : (extent : Extent) (place w n : ℕ) (more : List ℕ) (items : List Item)
     → first_part extent place (w ∷ more) ≡ Takes n items → w ≡ 241 → ⊥
 no_eci extent place w n more items e is =
-    let there : first_part extent place (241 ∷ more)
-    ≡ Takes n items = subst (λ (x : ℕ). first_part extent place (x ∷ more) ≡ Takes n items) is e in
     cc
 
 -- A part of a message that is a prefix is found.
@@ -146,10 +143,7 @@ content_part_complete extent place words after said (mark d number wide e whole 
 pub content_end_complete : (extent : Extent) (place : ℕ) (words : List ℕ) → IsEnd words
     → first_content_part extent place words ≡ Stops None
 content_end_complete extent place words (nothing e) = rw e refl
-content_end_complete extent place words (pad w more k e) =
-    let other : extent ≡ Wide → w ≡ 241 → ⊥ = λ wide is.
-    (let l : codeword_of w ≡ Some codeword.LeftOut = ap codeword_of is in cc) in
-    rw e (as_part extent place w more other ∙ ap as_said (end_complete extent place (w ∷ more) (pad w more k refl)))
+content_end_complete extent place words (pad w more k e) = grind (arith, codeword_of, as_part, as_said, end_complete)
 
 -- A fault of a message that is there is found.
 found_fault : (extent : Extent) (place : ℕ) (words : List ℕ) (f : WordFault) → (extent ≡ Wide → BeginNoEci words)

@@ -1,9 +1,9 @@
 -- What the calls that read a content leave.
-use Rattle.dm_words.proofs.Names.{◌≡◌, ℕ, zero, suc, ◌+◌, ◌*◌, ◌≤◌, List, [], ◌∷◌, ◌++◌, length, refl, sym, ap, subst}
-use Rattle.dm_words.proofs.Names.{◌∙◌, arith, length-append, Option, Some, None, Result, Ok, Err, Extent, Wide, Item}
-use Rattle.dm_words.proofs.Names.{ContentFault, Mark, Opened, Opening, most_spelled, ContentView, IsOpening, headed}
-use Rattle.dm_words.proofs.Names.{framed, plain, Says, opening_items, closing_items, IsContentResult, opened}
-use Rattle.dm_words.proofs.Names.{opening_content, content_of, IsContentAt}
+use Rattle.dm_words.proofs.Names.{◌≡◌, ℕ, zero, suc, ◌+◌, ◌*◌, ◌≤◌, List, [], ◌++◌, length, refl, sym, ap, subst, ◌∙◌}
+use Rattle.dm_words.proofs.Names.{arith, length-append, Option, Some, None, Result, Ok, Err, Extent, Wide, Item}
+use Rattle.dm_words.proofs.Names.{ContentFault, Mark, Opened, Opening, most_spelled, ContentView, IsOpening, Says}
+use Rattle.dm_words.proofs.Names.{opening_items, closing_items, IsContentResult, opened, opening_content, content_of}
+use Rattle.dm_words.proofs.Names.{IsContentAt}
 use Rattle.dm_words.proofs.Pairs.{IsBytes}
 use Rattle.dm_words.proofs.Openings as openings
 use Rattle.dm_words.proofs.Openings.{OpeningJudged}
@@ -29,13 +29,7 @@ some_room (suc count) most some le = le
 room_by : (extent : Extent) (words more : List ℕ) (opening : Opening) (count most : ℕ)
     → IsOpening extent words more opening → length words ≤ count → most_spelled extent count ≤ most
     → length (opening_items opening) + length (closing_items opening) + 2 * count ≤ most + 2 * length words
-room_by extent words more opening count most (headed said wide s is) short le =
-    rw is (omega (arith, room_of_two most extent count le))
-room_by extent words more opening count most (framed digit wide f is) short le =
-    let some : 1 ≤ length words = omega (arith, ap length f.whole, length-append f.runs (f.word ∷ [])) in
-    rw is (omega (arith, some, some_room count most (omega (arith, some, short)) (rw wide at le)))
-room_by extent words more opening count most (plain e no_head no_frame is) short le =
-    rw is (omega (arith, room_of_two most extent count le))
+room_by extent words more opening count most h1 h2 h3 = grind (arith, room_of_two, length-append, some_room)
 
 -- What is found has room.
 pub opening_room : (extent : Extent) (words : List ℕ) (o : Opened) → opened extent words ≡ Some o
@@ -46,8 +40,7 @@ opening_room extent words o e =
     let within : length j.first ≤ length words = omega (arith, ap length j.whole, length-append j.first j.more) in
     record {
       in_range = omega (arith, j.count, within);
-      room = λ most le.
-          omega (arith, j.count, room_by extent j.first j.more o.opening (length words) most j.is_opening within le);
+      room = λ most le. omega (arith, j.count, room_by _ _ _ _ (length words) most j.is_opening within le);
     }
 
 -- Behind an opening, reading begins with its items and no mark.

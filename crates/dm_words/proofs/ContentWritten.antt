@@ -2,12 +2,12 @@
 use Rattle.dm_words.proofs.Names.{◌≡◌, ℕ, ◌+◌, ◌-◌, ◌≤◌, List, [], ◌∷◌, ◌++◌, length, append_assoc, refl, sym, take}
 use Rattle.dm_words.proofs.Names.{drop, ap, subst, ◌∙◌, arith, length-append, Some, None, Option, append-nil, take_rest}
 use Rattle.dm_words.proofs.Names.{take_all, take-append-drop, length-take, take-add, Wide, Item, Head, Mark, Opening}
-use Rattle.dm_words.proofs.Names.{Plain, Headed, Framed, codeword_of, eci_word, designator, most_assigned, IsHead}
-use Rattle.dm_words.proofs.Names.{head_words, Piece, spelled, whats, AreJoined, ContentView, AreMarks, Said, Items}
-use Rattle.dm_words.proofs.Names.{Number, IsContentPart, mark, AreContentParts, said_items, said_marks, AreOpened}
-use Rattle.dm_words.proofs.Names.{headed, framed, said_content, Says, ascii_with_marks, macro_text, BeginsFnc1}
-use Rattle.dm_words.proofs.Names.{FramesFnc1, pads, padded, IsPlainSaid, ArePads, SaysThenPads, AreSaid, view_of}
-use Rattle.dm_words.proofs.Names.{NoUnlatchFirst, ArePartsWritten}
+use Rattle.dm_words.proofs.Names.{Headed, Framed, codeword_of, eci_word, designator, most_assigned, IsHead, head_words}
+use Rattle.dm_words.proofs.Names.{Piece, spelled, whats, AreJoined, ContentView, AreMarks, Said, Items, Number}
+use Rattle.dm_words.proofs.Names.{IsContentPart, mark, AreContentParts, said_items, said_marks, AreOpened, headed}
+use Rattle.dm_words.proofs.Names.{framed, said_content, Says, ascii_with_marks, macro_text, BeginsFnc1, FramesFnc1}
+use Rattle.dm_words.proofs.Names.{pads, padded, IsPlainSaid, ArePads, SaysThenPads, AreSaid, view_of, NoUnlatchFirst}
+use Rattle.dm_words.proofs.Names.{ArePartsWritten}
 use Rattle.dm_words.proofs.MarkedCosts.{IsForth}
 use Rattle.dm_words.specs.declared.codeword.Codeword.TheVariants as codeword
 use Rattle.dm_words.specs.Plain as plainly
@@ -37,18 +37,13 @@ nothing_said total base seen = record {
 -- What is said, and more behind it.
 items-append : (a b : List Said) → said_items (a ++ b) ≡ said_items a ++ said_items b
 items-append [] b = refl
-items-append (Items items ∷ a) b = ap (λ (r : List Item). items ++ r) (items-append a b)
-    ∙ sym (append_assoc items (said_items a) (said_items b))
+items-append (Items items ∷ a) b = cc (items-append a b, append_assoc items (said_items a) (said_items b))
 items-append (Number number ∷ a) b = items-append a b
 
 marks-append : (seen : ℕ) (a b : List Said) → said_marks seen (a ++ b)
     ≡ said_marks seen a ++ said_marks (seen + length (said_items a)) b
 marks-append seen [] b = (let e : seen ≡ seen + 0 = omega arith in ap (λ (n : ℕ). said_marks n b) e)
-marks-append seen (Items items ∷ a) b =
-    let e : (seen + length items) + length (said_items a) ≡ seen + length (items ++ said_items a) =
-    omega (arith, length-append items (said_items a)) in
-    marks-append (seen + length items) a b
-    ∙ ap (λ (n : ℕ). said_marks (seen + length items) a ++ said_marks n b) e
+marks-append seen (Items items ∷ a) b = grind (arith, said_items, length-append, marks-append (seen + length items) a b)
 marks-append seen (Number number ∷ a) b =
     ap (λ (r : List Mark). (let m : Mark = record { place = seen; number = number } in m) ∷ r) (marks-append seen a b)
 
@@ -64,8 +59,7 @@ joined-append R place (p ∷ a) b after h k =
     let there : place + length (p.words ++ spelled a) ≡ (place + length p.words) + length (spelled a) =
     omega (arith, length-append p.words (spelled a)) in (
       subst (λ (l : List ℕ). R place p.words l p.what) all h.0,
-      joined-append R (place + length p.words) a b after h.1
-          (subst (λ (q : ℕ). AreJoined R q b after) there k),
+      joined-append R (place + length p.words) a b after h.1 (rw there at k),
     )
 
 -- More parts are written.
@@ -79,23 +73,17 @@ said_more : (total : ℕ) (base old new : List ℕ) (seen : ℕ) (items : List I
     (marks ++ said_marks (seen + length items) (whats more))
 said_more total base old new seen items marks more w is right = record {
   parts = w.parts ++ more;
-  whole = is ∙ ap (λ (l : List ℕ). l ++ spelled more) w.whole ∙ append_assoc base (spelled w.parts) (spelled more)
-      ∙ ap (λ (l : List ℕ). base ++ l) (sym (spelled-append w.parts more));
-  items_are = ap (λ (l : List Item). l ++ said_items (whats more)) w.items_are
-      ∙ sym (items-append (whats w.parts) (whats more)) ∙ ap said_items (sym (whats-append w.parts more));
-  marks_are = ap (λ (l : List Mark). l ++ said_marks (seen + length items) (whats more)) w.marks_are
-      ∙ ap (λ (l : List Item). said_marks seen (whats w.parts) ++ said_marks (seen + length l) (whats more)) w.items_are
-      ∙ sym (marks-append seen (whats w.parts) (whats more)) ∙ ap (said_marks seen) (sym (whats-append w.parts more));
+  whole = cc (w.whole, append_assoc base (spelled w.parts) (spelled more), spelled-append w.parts more);
+  items_are = cc (w.items_are, items-append (whats w.parts) (whats more), whats-append w.parts more);
+  marks_are = cc (w.marks_are, w.items_are, marks-append seen (whats w.parts) (whats more), whats-append w.parts more);
   right = λ after fills first.
       (let r = right after fills first in
       joined-append (IsContentPart Wide) (length base + 1) w.parts more after
-      (w.right (spelled more ++ after) (fills_so after fills) r.2)
-      (subst (λ (p : ℕ). AreJoined (IsContentPart Wide) p more after) place r.0));
+      (w.right (spelled more ++ after) (fills_so after fills) r.2) (rw place at r.0));
   plain = λ after fills first.
       (let r = right after fills first in
       joined-append IsPlainSaid (length base + 1) w.parts more after
-      (w.plain (spelled more ++ after) (fills_so after fills) r.2)
-      (subst (λ (p : ℕ). AreJoined IsPlainSaid p more after) place r.1));
+      (w.plain (spelled more ++ after) (fills_so after fills) r.2) (rw place at r.1));
 } where
   place : length old + 1 ≡ length base + 1 + length (spelled w.parts)
   place = omega (arith, ap length w.whole, length-append base (spelled w.parts))
@@ -117,16 +105,14 @@ pub text_said : (total : ℕ) (base old new : List ℕ) (seen : ℕ) (items text
 text_said total base old new seen items text marks w t =
     let more = as_said t.parts in
     let words : spelled more ≡ spelled t.parts = said_words t.parts in
-    let a = said_more total base old new seen items marks more w
-    (t.whole ∙ ap (λ (l : List ℕ). old ++ l) (sym words))
-    (λ after fills first. (
+    let a =
+    said_more _ _ _ new _ _ _ more w (t.whole ∙ ap (λ (l : List ℕ). old ++ l) (sym words)) (λ after fills first. (
       said_joined Wide (length old + 1) t.parts after (t.right after fills first),
       plainly_joined (length old + 1) t.parts after (t.plain after fills first),
       subst (λ (l : List ℕ). NoUnlatchFirst (l ++ after)) (sym words) (t.begins after first),
     )) in
     subst (λ (l : List Item). AreSaid total base new seen (items ++ l) marks) (same_items t.parts ∙ sym t.items_are)
-    (subst (λ (l : List Mark). AreSaid total base new seen (items ++ said_items (whats more)) l)
-    (ap (λ (l : List Mark). marks ++ l) (no_marks (seen + length items) t.parts) ∙ append-nil marks) a)
+    (rw (ap (λ (l : List Mark). marks ++ l) (no_marks (seen + length items) t.parts) ∙ append-nil marks) at a)
 
 -- A mark is written.
 pub mark_said : (total : ℕ) (base old new : List ℕ) (seen number : ℕ) (items : List Item) (marks : List Mark)
@@ -137,14 +123,12 @@ mark_said total base old new seen number items marks w assigned is =
     let p : Piece Said = record { words = eci_word ∷ designator number; what = Number number } in
     let more = p ∷ [] in
     let all : spelled more ≡ eci_word ∷ designator number = append-nil (eci_word ∷ designator number) in
-    let a = said_more total base old new seen items marks more w (is ∙ ap (λ (l : List ℕ). old ++ l) (sym all))
-    (λ after fills first. (
+    let a = said_more _ _ _ new _ _ _ more w (is ∙ ap (λ (l : List ℕ). old ++ l) (sym all)) (λ after fills first. (
       (mark (designator number) number refl (designator_says number assigned) refl refl, tt),
       (plainly.mark (designator number) number (designator_says number assigned) refl refl, tt),
       λ e. absurd (omega (arith, e)),
     )) in
-    subst (λ (l : List Item). AreSaid total base new seen l
-    (marks ++ (let m : Mark = record { place = seen + length items; number = number } in m) ∷ [])) (append-nil items) a
+    rw (append-nil items) at a
 
 -- A turn of the loop writes the items up to a mark, and the mark.
 pub texts_turn : (total : ℕ) (base old new newer : List ℕ) (seen : ℕ) (items : List Item) (marks : List Mark)
@@ -161,13 +145,9 @@ texts_turn total base old new newer seen items marks k from place number behind 
     let text = subst (λ (l : List Item). AreSaid total base new seen l (take k marks)) more
     (text_said total base old new seen (take from items) (take (end - from) (drop from items)) (take k marks) w t) in
     let there : length (take end items) ≡ place - seen = omega (arith, length-take end items, is, f.within) in
-    let one : take k marks
-    ++ (let m : Mark = record { place = seen + length (take end items); number = number } in m) ∷ []
-    ≡ take (k + 1) marks =
-    ap (λ (n : ℕ). take k marks ++ (let m : Mark = record { place = seen + n; number = number } in m) ∷ []) there
-    ∙ sym f.mark in
-    subst (λ (l : List Mark). AreSaid total base newer seen (take end items) l) one
-    (mark_said total base new newer seen number (take end items) (take k marks) text f.assigned added)
+    let one : take k marks ++ (let m : Mark = record { place = seen + length (take end items); number = number } in m)
+    ∷ [] ≡ take (k + 1) marks = cc in
+    rw one at (mark_said total base new newer seen number (take end items) (take k marks) text f.assigned added)
 
 -- Behind the last mark the other items are written.
 pub texts_end : (total : ℕ) (base old new : List ℕ) (seen : ℕ) (items : List Item) (marks : List Mark) (k from : ℕ)
@@ -177,10 +157,8 @@ pub texts_end : (total : ℕ) (base old new : List ℕ) (seen : ℕ) (items : Li
 texts_end total base old new seen items marks k from le w t =
     let more : take from items ++ take (length items - from) (drop from items) ≡ items =
     ap (λ (l : List Item). take from items ++ l) (take_rest items from) ∙ take-append-drop from items in
-    subst (λ (l : List Mark). AreSaid total base new seen items l) (take_all k marks le)
-    (subst (λ (l : List Item). AreSaid total base new seen l (take k marks)) more
-    (text_said total base old new seen (take from items) (take (length items - from) (drop from items)) (take k marks)
-    w t))
+    subst (λ (l : List Mark). AreSaid total base new seen items l) (take_all k marks le) (rw more at (text_said total
+    base old new seen (take from items) (take (length items - from) (drop from items)) (take k marks) w t))
 
 -- The items in ASCII from mark to mark, and the marks, are written.
 pub form_said : (total : ℕ) (base new : List ℕ) (items : List Item) (marks : List Mark) → AreItems items
@@ -272,8 +250,7 @@ says_padded words l opening place more said opened parts is first plain pads = r
 -- A content is its head, items and marks.
 view_is : (head : Option Head) (items other : List Item) (marks those : List Mark) → items ≡ other → marks ≡ those
     → view_of head items marks ≡ view_of head other those
-view_is head items other marks those i m =
-    ap (λ (l : List Item). view_of head l marks) i ∙ ap (λ (l : List Mark). view_of head other l) m
+view_is head items other marks those i m = cc
 
 -- Behind nothing they say a content without a head.
 pub says_plain : (count : ℕ) (new : List ℕ) (items : List Item) (marks : List Mark)
@@ -282,11 +259,8 @@ pub says_plain : (count : ℕ) (new : List ℕ) (items : List Item) (marks : Lis
 says_plain count new items marks w fits =
     let p = padded_parts count [] new 0 items marks w fits in
     let here : AreContentParts Wide 1 p.more p.said = p.parts in
-    says_padded (padded new count) (view_of None items marks) Plain 1 p.more p.said
-    (opened_plain Wide (padded new count) p.more p.said p.whole here) here
-    (view_is None items (said_items p.said ++ []) marks (said_marks 0 p.said)
-    (p.items_are ∙ sym (append-nil (said_items p.said))) p.marks_are)
-    (λ digit e. absurd cc) p.plain p.pads_are
+    says_padded _ _ _ 1 _ _ (opened_plain _ _ _ _ p.whole here) here (view_is None items (said_items p.said ++ []) _ _
+    (p.items_are ∙ sym (append-nil (said_items p.said))) p.marks_are) (λ digit e. absurd cc) p.plain p.pads_are
 
 -- Behind a head they say a content with it.
 says_headed : (count : ℕ) (new : List ℕ) (head : Head) (items : List Item) (marks : List Mark) → IsHead (Some head)
@@ -301,21 +275,16 @@ says_headed count new head items marks right w fits =
       is_opening = headed head refl (head_says head right) refl;
       whole = p.whole;
       place_is = omega arith;
-    })
-    p.parts
-    (view_is (Some head) items (said_items p.said ++ []) marks (said_marks 0 p.said)
-    (p.items_are ∙ sym (append-nil (said_items p.said))) p.marks_are)
-    (λ digit e. absurd cc) p.plain p.pads_are
+    }) p.parts (view_is (Some head) items (said_items p.said ++ []) _ _ (p.items_are ∙ sym
+    (append-nil (said_items p.said))) p.marks_are) (λ digit e. absurd cc) p.plain p.pads_are
 
 -- Behind the codewords of a head, or none, they say a content with that.
 pub says_by_head : (count : ℕ) (base new : List ℕ) (head : Option Head) (items : List Item) (marks : List Mark)
     → IsHead head → base ≡ head_words head → AreSaid count base new 0 items marks → length new ≤ count
     → SaysPlainly (padded new count) (view_of head items marks)
-says_by_head count base new None items marks right is w fits =
-    says_plain count new items marks (subst (λ (b : List ℕ). AreSaid count b new 0 items marks) is w) fits
+says_by_head count base new None items marks right is w fits = says_plain count new items marks (rw is at w) fits
 says_by_head count base new (Some head) items marks right is w fits =
-    says_headed count new head items marks right
-    (subst (λ (b : List ℕ). AreSaid count b new 0 items marks) is w) fits
+    says_headed count new head items marks right (rw is at w) fits
 
 -- Behind a macro they say a content whose items it frames.
 pub says_framed : (count word digit : ℕ) (base new : List ℕ) (items text : List Item) (marks : List Mark)
@@ -323,8 +292,7 @@ pub says_framed : (count word digit : ℕ) (base new : List ℕ) (items text : L
     → AreSaid count base new 7 text marks → (BeginsFnc1 text → ⊥) → length new ≤ count
     → SaysPlainly (padded new count) (view_of None items marks)
 says_framed count word digit base new items text marks k is one w none fits =
-    let p = padded_parts count (word ∷ []) new 7 text marks
-    (subst (λ (b : List ℕ). AreSaid count b new 7 text marks) one w) fits in
+    let p = padded_parts count (word ∷ []) new 7 text marks (rw one at w) fits in
     says_padded (padded new count) (view_of None items marks) (Framed digit) 2 p.more p.said
     (record {
       first = word ∷ [];
@@ -332,8 +300,5 @@ says_framed count word digit base new items text marks k is one w none fits =
           refl;
       whole = p.whole;
       place_is = refl;
-    })
-    p.parts
-    (view_is None items (macro_text digit (said_items p.said)) marks (said_marks 7 p.said)
-    (is ∙ ap (macro_text digit) p.items_are) p.marks_are)
-    (λ other e. (refl, frames_not items digit text is none)) p.plain p.pads_are
+    }) p.parts (view_is None items (macro_text digit (said_items p.said)) _ _ (is ∙ ap (macro_text digit)
+    p.items_are) p.marks_are) (λ other e. (refl, frames_not _ digit text is none)) p.plain p.pads_are

@@ -1,7 +1,7 @@
 -- The costs of EDIFACT obey the rules too, and no words are fewer than the cost.
-use Rattle.dm_words.proofs.Names.{◌≡◌, ℕ, zero, suc, ◌+◌, ◌*◌, ◌≤◌, List, [], ◌∷◌, ◌++◌, length, refl, ap, ◌∙◌, arith}
-use Rattle.dm_words.proofs.Names.{true, ltb, length-append, nat_tests, Extent, Usual, Wide, Item, Byte, Edifact}
-use Rattle.dm_words.proofs.Names.{Setting, BeginsFrame, FramesNoFnc1, IsPart, AreParts, Spells, Groups, never, leave}
+use Rattle.dm_words.proofs.Names.{◌≡◌, ℕ, zero, suc, ◌+◌, ◌*◌, ◌≤◌, List, [], ◌∷◌, ◌++◌, length, refl, ap, arith, true}
+use Rattle.dm_words.proofs.Names.{ltb, length-append, nat_tests, Extent, Usual, Wide, Item, Byte, Edifact, Setting}
+use Rattle.dm_words.proofs.Names.{BeginsFrame, FramesNoFnc1, IsPart, AreParts, Spells, Groups, never, leave}
 use Rattle.dm_words.proofs.Names.{byte_before, has_edifact, stay_edifact, or_leave_edifact, parts_cost, at_end}
 use Rattle.dm_words.proofs.Names.{before_words, IsLeastCost}
 use Rattle.dm_words.specs.inner.Costs.{owed_group, row}
@@ -98,8 +98,7 @@ module _ (behind : ℕ) where
       ≡ owed_group r (or_leave_edifact cost over) =
       ap (owed_group r) (edifact_is (before_words behind) (Byte b) m) in
       let e : suc r ≡ r + 1 = omega arith in
-      let there : owed_group r over ≡ owed_group (r + 1) next = ap (owed_group r) stays ∙ owed_byte r next
-      ∙ ap (λ (n : ℕ). owed_group n next) e in
+      let there : owed_group r over ≡ owed_group (r + 1) next = cc (owed_byte r next) in
       omega (arith, most, here, there)
 
   -- The costs of the definition obey the rules of EDIFACT in the wide extent.

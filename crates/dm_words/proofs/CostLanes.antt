@@ -1,9 +1,9 @@
 -- The costs that lie in lanes are those of the definition.
 use Rattle.dm_words.proofs.Names.{◌++◌, ◌≡◌, ◌⊎◌, inl, inr, ℕ, zero, suc, ◌+◌, ◌-◌, ◌^◌, ◌<◌, ◌≤◌, get_or, List, refl}
-use Rattle.dm_words.proofs.Names.{sym, ap, subst, ◌∙◌, arith, Bool, true, false, cond, eqb, length, ltb, replicate, w16}
-use Rattle.dm_words.proofs.Names.{[], ◌∷◌, ◌&&◌, map, nat_eq, nat_le, not, sel_l, top, zip2, length-map, tops_compared}
-use Rattle.dm_words.proofs.Names.{min, nat_tests, Extent, Usual, Wide, Item, Byte, Fnc1, C40, Text, X12, Costs, Pairs}
-use Rattle.dm_words.proofs.Names.{Groups, Going, Row, is_basic, low_values, set_values, has_edifact, stay, stay_edifact}
+use Rattle.dm_words.proofs.Names.{sym, ap, subst, ◌∙◌, arith, Bool, true, false, cond, eqb, length, replicate, w16, []}
+use Rattle.dm_words.proofs.Names.{◌∷◌, ◌&&◌, map, nat_eq, nat_le, not, sel_l, top, zip2, length-map, tops_compared, min}
+use Rattle.dm_words.proofs.Names.{nat_tests, Extent, Usual, Wide, Item, Byte, Fnc1, C40, Text, X12, Costs, Pairs}
+use Rattle.dm_words.proofs.Names.{Groups, Going, Row, is_basic, set_values, has_edifact, stay, stay_edifact}
 use Rattle.dm_words.proofs.Names.{values_before, going_over, IsWithin, never, no_pairs, no_groups, leave, has_bit}
 use Rattle.dm_words.proofs.Names.{step_in, step_of, begin_at, cost_of, StepBits, HasRow}
 use Rattle.std.specs.Prelude.{bit_and}
@@ -30,35 +30,14 @@ pub first_low : (byte : ℕ) (c t : Pairs) (bytes rest : ℕ) (lanes : List ℕ)
     → lanes ≡ first_lanes (values_before (one_or_two (is_basic C40 byte)) c)
     (values_before (one_or_two (is_basic Text byte)) t) bytes rest
     → lanes ≡ first_lanes (stay (set_values C40 (Byte byte)) c) (stay (set_values Text (Byte byte)) t) bytes rest
-first_low byte c t bytes rest lanes low is =
-    let test : ltb byte 128 ≡ true = grind (arith, nat_tests) in
-    let c40 : set_values C40 (Byte byte) ≡ one_or_two (is_basic C40 byte) =
-    ap (λ (b : Bool). cond b (low_values C40 byte) (2 + low_values C40 (byte - 128))) test in
-    let text : set_values Text (Byte byte) ≡ one_or_two (is_basic Text byte) =
-    ap (λ (b : Bool). cond b (low_values Text byte) (2 + low_values Text (byte - 128))) test in
-    is
-    ∙ ap (λ (p : Pairs). first_lanes p (values_before (one_or_two (is_basic Text byte)) t) bytes rest)
-    (stay_low (is_basic C40 byte) c ∙ ap (λ (n : ℕ). stay n c) (sym c40))
-    ∙ ap (λ (p : Pairs). first_lanes (stay (set_values C40 (Byte byte)) c) p bytes rest)
-    (stay_low (is_basic Text byte) t ∙ ap (λ (n : ℕ). stay n t) (sym text))
+first_low byte c t bytes rest lanes low is = grind (arith, nat_tests, set_values, one_or_two, is_basic, stay_low)
 
 -- The lanes of a byte from 128 on.
 pub first_high : (byte : ℕ) (c t : Pairs) (bytes rest : ℕ) (lanes : List ℕ) → 128 ≤ byte
     → lanes ≡ first_lanes (values_before (one_or_two (is_basic C40 (byte - 128))) (values_before 2 c))
     (values_before (one_or_two (is_basic Text (byte - 128))) (values_before 2 t)) bytes rest
     → lanes ≡ first_lanes (stay (set_values C40 (Byte byte)) c) (stay (set_values Text (Byte byte)) t) bytes rest
-first_high byte c t bytes rest lanes high is =
-    let low : ℕ = byte - 128 in
-    let test : ltb byte 128 ≡ false = grind (arith, nat_tests) in
-    let c40 : set_values C40 (Byte byte) ≡ 2 + one_or_two (is_basic C40 low) =
-    ap (λ (b : Bool). cond b (low_values C40 byte) (2 + low_values C40 low)) test in
-    let text : set_values Text (Byte byte) ≡ 2 + one_or_two (is_basic Text low) =
-    ap (λ (b : Bool). cond b (low_values Text byte) (2 + low_values Text low)) test in
-    is
-    ∙ ap (λ (p : Pairs). first_lanes p (values_before (one_or_two (is_basic Text low)) (values_before 2 t)) bytes rest)
-    (stay_raised (is_basic C40 low) c ∙ ap (λ (n : ℕ). stay n c) (sym c40))
-    ∙ ap (λ (p : Pairs). first_lanes (stay (set_values C40 (Byte byte)) c) p bytes rest)
-    (stay_raised (is_basic Text low) t ∙ ap (λ (n : ℕ). stay n t) (sym text))
+first_high byte c t bytes rest lanes high is = grind (arith, nat_tests, set_values, one_or_two, is_basic, stay_raised)
 
 -- Two values more leave the costs below what they may be.
 pub raised_next : (c t : Pairs) (bytes rest : ℕ) (lanes raised : List ℕ) → AreNext c t bytes rest lanes
@@ -176,11 +155,10 @@ pub by_sets_is : (sets : ℕ) (bits inside outside : List ℕ) → length bits �
 by_sets_is sets bits inside outside long =
     let shared : zip2 (λ a b. bit_and a b) (replicate 8 sets) bits ≡ map (λ bit. bit_and sets bit) bits =
     zip2_splat_left (λ a b. bit_and a b) sets 8 bits long in
-    ap (λ (xs : List ℕ). sel_l (map (top 15) (zip2 (λ a b. cond (not (eqb a b)) 65535 0) xs (replicate 8 0))) inside
-    outside) shared
-    ∙ ap (λ (ms : List Bool). sel_l ms inside outside)
-    (told_lanes (map (λ bit. bit_and sets bit) bits) (length-map bits (λ bit. bit_and sets bit) ∙ long)
-    ∙ map-map (λ n. not (eqb n 0)) (λ bit. bit_and sets bit) bits)
+    cc (
+      told_lanes (map (λ bit. bit_and sets bit) bits) (length-map bits (λ bit. bit_and sets bit) ∙ long),
+      map-map (λ n. not (eqb n 0)) (λ bit. bit_and sets bit) bits,
+    )
 
 -- A byte is one value or two of C40, and one or two of Text.
 first_by_sets : (in_c40 in_text in_x12 in_edifact : Bool) (c t : Pairs) (bytes rest : ℕ)
@@ -188,22 +166,7 @@ first_by_sets : (in_c40 in_text in_x12 in_edifact : Bool) (c t : Pairs) (bytes r
     (first_lanes (values_before 1 c) (values_before 1 t) bytes rest)
     (first_lanes (values_before 2 c) (values_before 2 t) bytes rest)
     ≡ first_lanes (values_before (one_or_two in_c40) c) (values_before (one_or_two in_text) t) bytes rest
-first_by_sets true true true true c t bytes rest = refl
-first_by_sets true true true false c t bytes rest = refl
-first_by_sets true true false true c t bytes rest = refl
-first_by_sets true true false false c t bytes rest = refl
-first_by_sets true false true true c t bytes rest = refl
-first_by_sets true false true false c t bytes rest = refl
-first_by_sets true false false true c t bytes rest = refl
-first_by_sets true false false false c t bytes rest = refl
-first_by_sets false true true true c t bytes rest = refl
-first_by_sets false true true false c t bytes rest = refl
-first_by_sets false true false true c t bytes rest = refl
-first_by_sets false true false false c t bytes rest = refl
-first_by_sets false false true true c t bytes rest = refl
-first_by_sets false false true false c t bytes rest = refl
-first_by_sets false false false true c t bytes rest = refl
-first_by_sets false false false false c t bytes rest = refl
+first_by_sets in_c40 in_text in_x12 in_edifact c t bytes rest = grind (arith, nat_tests)
 
 -- A byte goes on in X12, in EDIFACT where that is read, in both or in none.
 second_by_sets : (extent : Extent) (in_c40 in_text in_x12 in_edifact : Bool) (x : Pairs) (e : Groups)
@@ -253,13 +216,7 @@ pub first_chosen : (in_c40 in_text in_x12 in_edifact : Bool) (c t : Pairs) (byte
     → lanes ≡ sel_l (in_sets sets (1 ∷ 1 ∷ 1 ∷ 2 ∷ 2 ∷ 2 ∷ 0 ∷ 0 ∷ [])) one two
     → lanes ≡ first_lanes (values_before (one_or_two in_c40) c) (values_before (one_or_two in_text) t) bytes rest
 first_chosen in_c40 in_text in_x12 in_edifact c t bytes rest sets one two lanes is_sets is_one is_two is =
-    let bits = set_bits in_c40 in_text in_x12 in_edifact in
-    is
-    ∙ ap (λ (n : ℕ). sel_l (in_sets n (1 ∷ 1 ∷ 1 ∷ 2 ∷ 2 ∷ 2 ∷ 0 ∷ 0 ∷ [])) one two) is_sets
-    ∙ ap (λ (xs : List ℕ). sel_l (in_sets bits (1 ∷ 1 ∷ 1 ∷ 2 ∷ 2 ∷ 2 ∷ 0 ∷ 0 ∷ [])) xs two) is_one
-    ∙ ap (sel_l (in_sets bits (1 ∷ 1 ∷ 1 ∷ 2 ∷ 2 ∷ 2 ∷ 0 ∷ 0 ∷ []))
-    (first_lanes (values_before 1 c) (values_before 1 t) bytes rest)) is_two
-    ∙ first_by_sets in_c40 in_text in_x12 in_edifact c t bytes rest
+    cc (first_by_sets in_c40 in_text in_x12 in_edifact c t bytes rest)
 
 -- In the second vector, so are those of X12 and of EDIFACT that are in the sets of the byte and read in the extent.
 pub second_chosen : (extent : Extent) (in_c40 in_text in_x12 in_edifact : Bool) (x : Pairs) (e : Groups)
@@ -268,23 +225,12 @@ pub second_chosen : (extent : Extent) (in_c40 in_text in_x12 in_edifact : Bool) 
     → inside ≡ second_lanes (stay 1 x) (stay_edifact true e) → outside ≡ second_lanes no_pairs no_groups
     → lanes ≡ sel_l (in_sets (bit_and sets read) (4 ∷ 4 ∷ 4 ∷ 8 ∷ 8 ∷ 8 ∷ 8 ∷ 0 ∷ [])) inside outside
     → lanes ≡ second_lanes (stay (cond in_x12 1 0) x) (stay_edifact (read_edifact extent in_edifact) e)
-second_chosen extent in_c40 in_text in_x12 in_edifact x e sets read inside outside lanes is_sets is_read is_inside
-    is_outside is =
-    let bits = set_bits in_c40 in_text in_x12 in_edifact in
-    let lane_bits = 4 ∷ 4 ∷ 4 ∷ 8 ∷ 8 ∷ 8 ∷ 8 ∷ 0 ∷ [] in
-    is
-    ∙ ap (λ (n : ℕ). sel_l (in_sets (bit_and n read) lane_bits) inside outside) is_sets
-    ∙ ap (λ (n : ℕ). sel_l (in_sets (bit_and bits n) lane_bits) inside outside) is_read
-    ∙ ap (λ (xs : List ℕ). sel_l (in_sets (bit_and bits (read_bits extent)) lane_bits) xs outside) is_inside
-    ∙ ap (sel_l (in_sets (bit_and bits (read_bits extent)) lane_bits)
-    (second_lanes (stay 1 x) (stay_edifact true e))) is_outside
-    ∙ second_by_sets extent in_c40 in_text in_x12 in_edifact x e
+second_chosen extent in_c40 in_text in_x12 in_edifact x e sets read inside outside lanes h1 h2 h3 h4 h5 =
+    grind (arith, nat_tests, set_bits, sel_l, in_sets, bit_and, read_bits, second_lanes, stay_edifact, second_by_sets)
 
 -- The table has the sets of each byte: this is computed.
 pub sets_at : (byte : ℕ) → byte < 256 → get_or SETS byte 0 ≡ byte_sets byte
-sets_at byte small =
-    ap (λ (xs : List ℕ). get_or xs byte 0) sets_are
-    ∙ get_or-map-range_with_len byte_sets 0 256 byte byte 0 small (omega arith)
+sets_at byte small = cc (get_or-map-range_with_len byte_sets 0 256 byte byte 0 small (omega arith))
   where
     sets_are : SETS ≡ map byte_sets (range_with_len 0 256)
     sets_are = refl
@@ -326,21 +272,12 @@ step_kept cost bits ends others lanes more g e o l m first second =
 -- Each way to begin costs what stands at its place.
 pub cost_at : (item : Item) (pair : Bool) (next : Row) (g : Going) (k : ℕ) → k < 8
     → get_or (cost_lanes item pair next g) k 0 ≡ cost_of item pair next g (begin_at k)
-cost_at item pair next g zero small = refl
-cost_at item pair next g (suc zero) small = refl
-cost_at item pair next g (suc (suc zero)) small = refl
-cost_at item pair next g (suc (suc (suc zero))) small = refl
-cost_at item pair next g (suc (suc (suc (suc zero)))) small = refl
-cost_at item pair next g (suc (suc (suc (suc (suc zero))))) small = refl
-cost_at item pair next g (suc (suc (suc (suc (suc (suc zero)))))) small = refl
-cost_at item pair next g (suc (suc (suc (suc (suc (suc (suc zero))))))) small = refl
-cost_at item pair next g (suc (suc (suc (suc (suc (suc (suc (suc k)))))))) small = absurd (omega (arith, small))
+cost_at item pair next g k h1 = grind (arith, nat_tests)
 
 -- What a way to begin costs stands in its lane.
 pub lane_costs : (item : Item) (pair : Bool) (next : Row) (g : Going) (k : ℕ) (costs : List ℕ) (cost : ℕ) → k < 8
     → costs ≡ cost_lanes item pair next g → cost_of item pair next g (begin_at k) ≡ cost → get_or costs k 0 ≡ cost
-lane_costs item pair next g k costs cost small are is =
-    ap (λ (l : List ℕ). get_or l k 0) are ∙ cost_at item pair next g k small ∙ is
+lane_costs item pair next g k costs cost small are is = cc (cost_at item pair next g k small)
 
 -- The place behind which none is taken is the first one.
 pub first_begin : (n : ℕ) → (0 < n → ⊥) → begin_at n ≡ begin_at 0
@@ -355,6 +292,4 @@ second_begin (suc (suc n)) none = absurd (none (omega arith))
 
 -- The last lane of all costs is 0.
 pub last_zero : (g : Going) (costs : GoingCosts) → HasGoing g costs → get_or (costs.first ++ costs.second) 15 0 ≡ 0
-last_zero g costs h =
-    ap (λ (xs : List ℕ). get_or (xs ++ costs.second) 15 0) h.first
-    ∙ ap (λ (xs : List ℕ). get_or (first_lanes g.c40 g.text g.segment.bytes g.segment.rest ++ xs) 15 0) h.others
+last_zero g costs h = cc

@@ -2,7 +2,7 @@
 use Rattle.dm_words.proofs.Names.{◌≡◌, ◌⊎◌, inl, inr, ℕ, zero, suc, ◌+◌, ◌*◌, ◌/◌, ◌%◌, ◌<◌, ◌≤◌, List, [], ◌∷◌, ◌++◌}
 use Rattle.dm_words.proofs.Names.{length, refl, ap, ◌∙◌, arith, Bool, true, false, cond, ltb, nat_le, ◌&&◌, ◌==◌, min}
 use Rattle.dm_words.proofs.Names.{cases_lt, nat_tests, Item, Byte, Fnc1, CodeSet, C40, Text, X12, Pairs, Going, Row}
-use Rattle.dm_words.proofs.Names.{Begin, One, Two, Run, Edifact, Segment, Rest, is_digit, byte_items, never, unit_cost}
+use Rattle.dm_words.proofs.Names.{Begin, One, Two, Run, Segment, Rest, is_digit, byte_items, never, unit_cost}
 use Rattle.dm_words.proofs.Names.{set_values, values_before, stay, leave, or_leave, is_digit_item, digit_first}
 use Rattle.dm_words.proofs.Names.{segment_cost, going_over, cost_of, least, parts_cost, Setting}
 use Rattle.dm_words.specs.inner.Costs.{owed, value_before, row_before, row}
@@ -60,14 +60,7 @@ pairs_of X12 r = r.x12
 -- The least is at most each.
 pub is_least : (item : Item) (pair : Bool) (next : Row) (going : Going) (begin : Begin)
     → least item pair next going ≤ cost_of item pair next going begin
-is_least item pair next going One = omega arith
-is_least item pair next going Two = omega arith
-is_least item pair next going (Run C40) = omega arith
-is_least item pair next going (Run Text) = omega arith
-is_least item pair next going (Run X12) = omega arith
-is_least item pair next going Edifact = omega arith
-is_least item pair next going Segment = omega arith
-is_least item pair next going Rest = omega arith
+is_least item pair next going begin = grind (arith, nat_tests)
 
 module _ (setting : Setting) where
   -- The costs where runs go on over an item.
@@ -140,8 +133,7 @@ module _ (setting : Setting) where
       (or_leave_most (parts_cost setting (x ∷ m)) (going set x m)) in
       let here : owed r (pairs_of set (row setting (x ∷ m)))
       ≡ owed r (or_leave (parts_cost setting (x ∷ m)) (going set x m)) = ap (owed r) (pairs_is set x m) in
-      let stays : owed r (going set x m) ≡ owed (r + k) next = ap (owed r) (stay_is k next some)
-      ∙ owed_values k r next in
+      let stays : owed r (going set x m) ≡ owed (r + k) next = cc (stay_is k next some, owed_values k r next) in
       omega (arith, most, here, stays)
 
   ends : (set : CodeSet) (q : ℕ) (m : List Item) → owes set (3 * q) m ≤ 2 * q + leave 1 (parts_cost setting m)

@@ -16,42 +16,35 @@ same_designations : (before place : ℕ) (ps qs : List (Piece Said)) (words afte
     → designations before ps ≡ designations before qs
 same_designations before place [] [] words after rest one other joined with_other ended end = refl
 same_designations before place [] (q ∷ qs) words after rest one other joined with_other ended end =
-    let stops : first_content_part Wide place words ≡ Stops None =
-    ap (first_content_part Wide place) one ∙ content_end_complete Wide place after ended in
-    let takes : first_content_part Wide place words ≡ Takes (length q.words) q.what =
-    ap (first_content_part Wide place) (other ∙ append_assoc q.words (spelled qs) rest)
-    ∙ (content_part_complete Wide place q.words (spelled qs ++ rest) q.what with_other.0).0 in
+    let stops : first_content_part Wide place words ≡ Stops None = cc (content_end_complete Wide place after ended) in
+    let takes : first_content_part Wide place words ≡ Takes (length q.words) q.what = cc (
+      append_assoc q.words (spelled qs) rest,
+      (content_part_complete Wide place q.words (spelled qs ++ rest) q.what with_other.0).0,
+    ) in
     absurd cc
 same_designations before place (p ∷ ps) [] words after rest one other joined with_other ended end =
-    let stops : first_content_part Wide place words ≡ Stops None =
-    ap (first_content_part Wide place) other ∙ content_end_complete Wide place rest end in
-    let takes : first_content_part Wide place words ≡ Takes (length p.words) p.what =
-    ap (first_content_part Wide place) (one ∙ append_assoc p.words (spelled ps) after)
-    ∙ (content_part_complete Wide place p.words (spelled ps ++ after) p.what joined.0).0 in
+    let stops : first_content_part Wide place words ≡ Stops None = cc (content_end_complete Wide place rest end) in
+    let takes : first_content_part Wide place words ≡ Takes (length p.words) p.what = cc (
+      append_assoc p.words (spelled ps) after,
+      (content_part_complete Wide place p.words (spelled ps ++ after) p.what joined.0).0,
+    ) in
     absurd cc
 same_designations before place (p ∷ ps) (q ∷ qs) words after rest one other joined with_other ended end =
     let first = one ∙ append_assoc p.words (spelled ps) after in
     let second = other ∙ append_assoc q.words (spelled qs) rest in
     let takes : first_content_part Wide place words ≡ Takes (length p.words) p.what =
-    ap (first_content_part Wide place) first
-    ∙ (content_part_complete Wide place p.words (spelled ps ++ after) p.what joined.0).0 in
+    cc ((content_part_complete Wide place p.words (spelled ps ++ after) p.what joined.0).0) in
     let takes_other : first_content_part Wide place words ≡ Takes (length q.words) q.what =
-    ap (first_content_part Wide place) second
-    ∙ (content_part_complete Wide place q.words (spelled qs ++ rest) q.what with_other.0).0 in
+    cc ((content_part_complete Wide place q.words (spelled qs ++ rest) q.what with_other.0).0) in
     let count : length p.words ≡ length q.words = cc in
     let what : p.what ≡ q.what = cc in
     let left : drop (length p.words) words ≡ spelled ps ++ after =
     ap (drop (length p.words)) first ∙ drop_at p.words (spelled ps ++ after) (length p.words) refl in
     let right : drop (length p.words) words ≡ spelled qs ++ rest =
-    ap (λ (n : ℕ). drop n words) count
-    ∙ ap (drop (length q.words)) second ∙ drop_at q.words (spelled qs ++ rest) (length q.words) refl in
-    let further =
-    same_designations (before + length p.words) (place + length p.words) ps qs (drop (length p.words) words) after rest
-    left right joined.1
-    (subst (λ (n : ℕ). AreJoined (IsContentPart Wide) (place + n) qs rest) (sym count) with_other.1) ended end in
-    ap (λ (said : Said). designation before said ++ designations (before + length p.words) ps) what
-    ∙ ap (λ (l : List Mark). designation before q.what ++ l) further
-    ∙ ap (λ (n : ℕ). designation before q.what ++ designations (before + n) qs) count
+    cc (drop_at q.words (spelled qs ++ rest) (length q.words) refl) in
+    let further = same_designations (before + length p.words) (place + length p.words) ps qs
+    (drop (length p.words) words) after rest left right joined.1 (rw (sym count) at with_other.1) ended end in
+    cc
 
 -- How many codewords open a content.
 abbrev opening_length : Option Opened → ℕ
@@ -81,15 +74,11 @@ one_list words found other (of_content opening place more opened said parts is)
     let opens_too = opens_so Wide words opening_too place_too more_too opened_too in
     let count : length opened.first ≡ length opened_too.first = ap opening_length (sym opens.0 ∙ opens_too.0) in
     let tails : more ≡ more_too = sym opens.1 ∙ ap (λ (n : ℕ). drop n words) count ∙ opens_too.1 in
-    let places : place_too ≡ place =
-    opened_too.place_is ∙ ap (λ (n : ℕ). 1 + n) (sym count) ∙ sym opened.place_is in
-    is
-    ∙ same_designations (length opened.first) place parts.parts parts_too.parts more parts.after parts_too.after
+    let places : place_too ≡ place = cc in
+    cc (same_designations (length opened.first) place parts.parts parts_too.parts more parts.after parts_too.after
     parts.whole (tails ∙ parts_too.whole) parts.joined
     (subst (λ (n : ℕ). AreJoined (IsContentPart Wide) n parts_too.parts parts_too.after) places parts_too.joined)
-    parts.ended
-    parts_too.ended
-    ∙ ap (λ (n : ℕ). designations n parts_too.parts) count ∙ sym is_too
+    parts.ended parts_too.ended)
 one_list words found other (of_content opening place more opened said parts is) (of_refused why refused none) =
     absurd (said_not_refused Wide words (said_content opening said) why (says_so opened parts) refused)
 one_list words found other (of_refused why refused none) (of_content opening place more opened said parts is) =

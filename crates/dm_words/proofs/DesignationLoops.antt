@@ -3,10 +3,10 @@ use Rattle.dm_words.proofs.Names.{◌≡◌, ◌≢◌, ℕ, ◌+◌, ◌*◌, �
 use Rattle.dm_words.proofs.Names.{ap, subst, ◌∙◌, append_assoc, arith, length-append, get_or, Option, Some, None}
 use Rattle.dm_words.proofs.Names.{Result, Ok, Err, append-nil, drop_at, length-drop, length-take, drop-drop}
 use Rattle.dm_words.proofs.Names.{take-append-drop, Wide, Designator, ContentFault, Mark, Opened, Piece, spelled, whats}
-use Rattle.dm_words.proofs.Names.{AreJoined, ContentView, Says, part, mark, Said, Items, Number, IsContentPart}
-use Rattle.dm_words.proofs.Names.{AreContentParts, HaveContentFault, IsContentFault, IsOpening, AreOpened, no_head}
-use Rattle.dm_words.proofs.Names.{behind, designation, designations, AreDesignations, of_content, of_refused, Stops}
-use Rattle.dm_words.proofs.Names.{opened, mark_by, first_content_part, content_of}
+use Rattle.dm_words.proofs.Names.{AreJoined, ContentView, Says, part, mark, Said, Number, IsContentPart}
+use Rattle.dm_words.proofs.Names.{AreContentParts, HaveContentFault, IsOpening, AreOpened, no_head, behind, designation}
+use Rattle.dm_words.proofs.Names.{designations, AreDesignations, of_content, of_refused, Stops, opened, mark_by}
+use Rattle.dm_words.proofs.Names.{first_content_part, content_of}
 use Rattle.std.proofs.lemmas.List.{get_or_append_left, get_or-append-add}
 use Rattle.dm_words.specs.inner.ContentsAt.{IsDesignationTaken}
 use Rattle.dm_words.proofs.Pairs.{IsBytes, IsBytes-drop}
@@ -34,8 +34,7 @@ joined-last place (p ∷ ps) words after said joined right =
     let there : place + length (p.words ++ spelled ps) ≡ (place + length p.words) + length (spelled ps) =
     omega (arith, length-append p.words (spelled ps)) in (
       subst (λ (rest : List ℕ). IsContentPart Wide place p.words rest p.what) whole joined.0,
-      joined-last (place + length p.words) ps words after said joined.1
-          (subst (λ (k : ℕ). IsContentPart Wide k words after said) there right),
+      joined-last (place + length p.words) ps words after said joined.1 (rw there at right),
     )
 
 -- The designators of parts, and of one behind them.
@@ -46,13 +45,7 @@ designations-last before [] q =
     let here : before + 0 ≡ before = omega arith in
     append-nil (designation before q.what) ∙ ap (λ (k : ℕ). designation k q.what) (sym here)
 designations-last before (p ∷ ps) q =
-    let there : (before + length p.words) + length (spelled ps) ≡ before + length (p.words ++ spelled ps) =
-    omega (arith, length-append p.words (spelled ps)) in
-    ap (λ (l : List Mark). designation before p.what ++ l)
-    (designations-last (before + length p.words) ps q
-    ∙ ap (λ (k : ℕ). designations (before + length p.words) ps ++ designation k q.what) there)
-    ∙ sym (append_assoc (designation before p.what) (designations (before + length p.words) ps)
-    (designation (before + length (p.words ++ spelled ps)) q.what))
+    grind (arith, length-append, append_assoc, designations-last (before + length p.words) ps q)
 
 -- The parts between two indexes are taken, and these are their designators.
 pub record AreTaken (words : List ℕ) (start at : ℕ) (found : List Mark) : Type 0 where
@@ -77,10 +70,7 @@ pub record Leaves (words : List ℕ) (start at n : ℕ) (found : List Mark) : Ty
 -- A designator has room behind the others.
 few_more : (at n : ℕ) (old new : List Mark) (said : Said) → HasRoom n said → 2 * length old ≤ at
     → new ≡ old ++ designation at said → 2 * length new ≤ at + n
-few_more at n old new (Items items) room few is = rw is (omega (arith, few, ap length (append-nil old)))
-few_more at n old new (Number number) room few is =
-    let m : Mark = record { place = at; number = number } in
-    rw is (omega (arith, few, room.0, length-append old (m ∷ [])))
+few_more at n old new said h1 h2 h3 = grind (arith, append-nil, length-append)
 
 -- A part that is taken goes on with those that were.
 pub goes_on : (words : List ℕ) (start at n : ℕ) (old new : List Mark) → IsBytes words → at ≤ length words
@@ -93,16 +83,13 @@ goes_on words start at n old new fit in_range few t took =
     let r = (content_part_sound Wide).right (at + 1) (drop at words) n said fits took.1 in
     let long : length (take n (drop at words)) ≡ n = omega (arith, length-take n (drop at words), r.2) in
     let room : HasRoom n said =
-    subst (λ (k : ℕ). HasRoom k said) long
-    (room_by Wide (at + 1) (take n (drop at words)) (drop n (drop at words)) said r.0) in
+    rw long at (room_by Wide (at + 1) (take n (drop at words)) (drop n (drop at words)) said r.0) in
     let q : Piece Said = record { words = take n (drop at words); what = said } in
     let cut : take n (drop at words) ++ drop n (drop at words) ≡ drop at words = take-append-drop n (drop at words) in
     let rest : drop n (drop at words) ≡ drop (at + n) words = drop-drop n at words in
     let place : at + 1 ≡ (start + 1) + length (spelled t.pieces) = omega (arith, t.long) in
-    let joined =
-    joined-last (start + 1) t.pieces (take n (drop at words)) (drop n (drop at words)) said
-    (subst (λ (l : List ℕ). AreJoined (IsContentPart Wide) (start + 1) t.pieces l) (sym cut) t.joined)
-    (subst (λ (k : ℕ). IsContentPart Wide k (take n (drop at words)) (drop n (drop at words)) said) place r.0) in
+    let joined = joined-last (start + 1) t.pieces (take n (drop at words)) (drop n (drop at words)) said
+    (rw (sym cut) at t.joined) (rw place at r.0) in
     record {
       in_range = omega (arith, r.2, length-drop at words);
       some = r.1;
@@ -119,9 +106,7 @@ goes_on words start at n old new fit in_range few t took =
           ap length (spelled-last t.pieces q),
           length-append (spelled t.pieces) (take n (drop at words)),
         );
-        found_is = took.2 ∙ ap (λ (l : List Mark). l ++ designation at said) t.found_is
-            ∙ ap (λ (k : ℕ). designations start t.pieces ++ designation k said) t.long
-            ∙ sym (designations-last start t.pieces q);
+        found_is = cc (took.2, t.found_is, t.long, designations-last start t.pieces q);
       };
     }
 
@@ -154,9 +139,7 @@ fails words start at found why fit t e =
       after = drop at words;
       joined = t.joined;
       whole = t.whole;
-      faulty =
-          subst (λ (k : ℕ). IsContentFault Wide k (drop at words) why) place
-          (content_fault_sound Wide (at + 1) (drop at words) why (IsBytes-drop at words fit) e);
+      faulty = rw place at (content_fault_sound Wide (at + 1) (drop at words) why (IsBytes-drop at words fit) e);
     }
 
 -- Behind ECI, a designator is found.
@@ -231,8 +214,7 @@ no_designations : (place before : ℕ) (ps : List (Piece Said)) (after : List �
     → HaveNoEci (spelled ps) → designations before ps ≡ []
 no_designations place before [] after joined none = refl
 no_designations place before (p ∷ ps) after joined none =
-    let here = no_designation place before p.words (spelled ps ++ after) p.what joined.0
-    (no_eci_before p.words (spelled ps) none) in
+    let here = no_designation _ before _ _ _ joined.0 (no_eci_before p.words (spelled ps) none) in
     let there = no_designations (place + length p.words) (before + length p.words) ps after joined.1
     (no_eci_behind p.words (spelled ps) none) in
     rw (here, there) refl

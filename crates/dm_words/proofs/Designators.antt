@@ -1,6 +1,6 @@
 -- The designator that is found first is the one of the definition, and each number has one.
 use Rattle.dm_words.proofs.Names.{◌≡◌, ℕ, ◌+◌, ◌-◌, ◌*◌, ◌/◌, ◌%◌, ◌<◌, ◌≤◌, List, [], ◌∷◌, ◌++◌, length, refl, sym, ap}
-use Rattle.dm_words.proofs.Names.{subst, ◌∙◌, arith, Bool, true, false, cond, leb, ltb, ◌&&◌, Option, Some, None, ◌↔◌}
+use Rattle.dm_words.proofs.Names.{subst, arith, Bool, true, false, cond, leb, ltb, ◌&&◌, Option, Some, None, ◌↔◌}
 use Rattle.dm_words.proofs.Names.{slice_get, ◌==◌, nat_tests, Designator, most_assigned, IsDesignator, one, two, three}
 use Rattle.dm_words.proofs.Names.{designator, first_designator}
 use Rattle.dm_words.specs.Designators.{BeginsNoDesignator}
@@ -9,10 +9,7 @@ use Rattle.dm_words.specs.inner.ContentScan.{is_further, two_words, three_words}
 -- A designator that is there is found.
 pub designator_complete : (words more : List ℕ) (number : ℕ) → IsDesignator words number
     → first_designator (words ++ more) ≡ Some (record { count = length words; number = number })
-designator_complete words more number (one a l h e n) = rw (e, n) (grind (arith, nat_tests))
-designator_complete words more number (two a b l h f e n) = rw (e, n) (grind (arith, nat_tests))
-designator_complete words more number (three a b c l h f g e n k) =
-    rw (e, n) (let k2 = rw n at k in grind (arith, nat_tests))
+designator_complete words more number h1 = grind (arith, nat_tests)
 
 -- The words begin with the designator that was found.
 pub record Found (words : List ℕ) (d : Designator) : Type 0 where
@@ -145,33 +142,7 @@ designator_says n le = by_test (ltb n 127) (ltb n 16383) refl refl where
 
 -- Nothing but the designator of a number says it.
 pub designator_only : (words : List ℕ) (number : ℕ) → IsDesignator words number → words ≡ designator number
-designator_only words n (one a l h e is) = e ∙ by_size (ltb n 127) refl where
-  by_size : (o : Bool) → ltb n 127 ≡ o → a ∷ [] ≡ designator n
-  by_size true t = (let first : a ≡ n + 1 = omega (arith, is, l) in rw t (ap (λ (x : ℕ). x ∷ []) first))
-  by_size false t = (let far : 127 ≤ n = grind (arith, nat_tests) in absurd (omega (arith, is, l, h, far)))
-designator_only words n (two a b l h f e is) = e ∙ by_size (ltb n 127) (ltb n 16383) refl refl where
-  by_size : (o t : Bool) → ltb n 127 ≡ o → ltb n 16383 ≡ t → a ∷ b ∷ [] ≡ designator n
-  by_size true t eo et = (let near : n < 127 = grind (arith, nat_tests) in absurd (omega (arith, is, l, h, near)))
-  by_size false true eo et =
-      let rest : n - 127 ≡ (a - 128) * 254 + (b - 1) = omega (arith, is) in
-      let first : a ≡ 128 + (n - 127) / 254 = omega (arith, rest, l, f.0, f.1) in
-      let second : b ≡ 1 + (n - 127) % 254 = omega (arith, rest, l, f.0, f.1) in
-      rw (eo, et) (ap (λ (x : ℕ). x ∷ b ∷ []) first ∙ ap (λ (y : ℕ). (128 + (n - 127) / 254) ∷ y ∷ []) second)
-  by_size false false eo et =
-      (let far : 16383 ≤ n = grind (arith, nat_tests) in absurd (omega (arith, is, l, h, f.0, f.1, far)))
-designator_only words n (three a b c l h f g e is k) = e ∙ by_size (ltb n 127) (ltb n 16383) refl refl where
-  by_size : (o t : Bool) → ltb n 127 ≡ o → ltb n 16383 ≡ t → a ∷ b ∷ c ∷ [] ≡ designator n
-  by_size true t eo et = (let near : n < 127 = grind (arith, nat_tests) in absurd (omega (arith, is, near)))
-  by_size false true eo et = (let near : n < 16383 = grind (arith, nat_tests) in absurd (omega (arith, is, near)))
-  by_size false false eo et =
-      let rest : n - 16383 ≡ (a - 192) * 64516 + (b - 1) * 254 + (c - 1) = omega (arith, is) in
-      let first : a ≡ 192 + (n - 16383) / 64516 = omega (arith, rest, l, f.0, f.1, g.0, g.1) in
-      let middle : (n - 16383) / 254 ≡ (a - 192) * 254 + (b - 1) = omega (arith, rest, g.0, g.1) in
-      let second : b ≡ 1 + (n - 16383) / 254 % 254 = omega (arith, middle, f.0, f.1) in
-      let third : c ≡ 1 + (n - 16383) % 254 = omega (arith, rest, g.0, g.1) in
-      rw (eo, et) (ap (λ (x : ℕ). x ∷ b ∷ c ∷ []) first
-      ∙ ap (λ (y : ℕ). (192 + (n - 16383) / 64516) ∷ y ∷ c ∷ []) second
-      ∙ ap (λ (z : ℕ). (192 + (n - 16383) / 64516) ∷ (1 + (n - 16383) / 254 % 254) ∷ z ∷ []) third)
+designator_only words number h1 = grind (arith, nat_tests)
 
 -- The numbers of assignments have one designator each.
 pub designator_is : (words : List ℕ) (number : ℕ) → number ≤ most_assigned

@@ -1,8 +1,8 @@
 -- How many codewords are ECI, and room for the marks that they say.
 use Rattle.dm_words.proofs.Names.{◌≡◌, ℕ, ◌+◌, ◌<◌, ◌≤◌, List, [], ◌∷◌, ◌++◌, length, take, drop, ap, arith, ◌∙◌, ◌-◌}
-use Rattle.dm_words.proofs.Names.{inl, inr, Bool, true, false, get_or, drop-cons, sym, add-one, refl, ◌==◌}
-use Rattle.dm_words.proofs.Names.{if◌then◌else◌, eqb-true, take-append-drop, drop-drop, drop_all, Extent, eci_word}
-use Rattle.dm_words.proofs.Names.{ContentView, Said, Items, Number, IsContentPart, part, mark, IsContentAt}
+use Rattle.dm_words.proofs.Names.{inl, inr, Bool, get_or, drop-cons, sym, add-one, ◌==◌, if◌then◌else◌, eqb-true}
+use Rattle.dm_words.proofs.Names.{take-append-drop, drop-drop, drop_all, Extent, eci_word, ContentView, Said, Items}
+use Rattle.dm_words.proofs.Names.{Number, IsContentPart, part, mark, IsContentAt}
 use Rattle.dm_words.specs.Contents.{eci_count, HasMarkRoom}
 
 -- Of words behind others each is counted once.
@@ -77,12 +77,7 @@ eci_counted words at count lt so_far e =
 pub other_passed : (words : List ℕ) (at count : ℕ) → at < length words → eci_count words
     ≡ count + eci_count (drop at words) → (get_or words at 0 ≡ eci_word → ⊥) → eci_count words
     ≡ count + eci_count (drop (at + 1) words)
-other_passed words at count lt so_far other =
-    omega (arith, so_far, counted_here words at lt, none (get_or words at 0 == eci_word) refl)
-  where
-    none : (b : Bool) → (get_or words at 0 == eci_word) ≡ b → counted (get_or words at 0 == eci_word) ≡ 0
-    none true e = absurd (other (eqb-true (get_or words at 0) eci_word e))
-    none false e = ap counted e
+other_passed words at count h1 h2 h3 = grind (arith, counted_here, eci_word, counted, eqb-true)
 
 -- At the end all are counted.
 pub all_counted : (words : List ℕ) (at count : ℕ) → length words ≤ at → eci_count words

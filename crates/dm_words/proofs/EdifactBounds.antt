@@ -46,8 +46,7 @@ module _ (least : List Item → ℕ) (owed : ℕ → List Item → ℕ) (costs :
       → least (texts vs ++ m) ≤ 1 + owed n m
   to_end vs n m small none e =
       let z : 0 + length vs ≡ n = omega (arith, e) in
-      let t : owed 0 (texts vs ++ m) ≤ owed n m =
-      subst (λ (j : ℕ). owed 0 (texts vs ++ m) ≤ owed j m) z (telescope vs 0 m small none) in
+      let t : owed 0 (texts vs ++ m) ≤ owed n m = rw z at (telescope vs 0 m small none) in
       omega (arith, costs.begins (texts vs ++ m), t)
 
   -- Whole groups.
@@ -124,8 +123,7 @@ module _ (least : List Item → ℕ) (owed : ℕ → List Item → ℕ) (costs :
       let room = groups_room r.groups r.each in
       let vs = gathered r.groups ++ r.last in
       let small : AreSixBits vs =
-      small-append (gathered r.groups) r.last (groups_small r.groups r.each)
-      (end_small r.end after r.last r.ended) in
+      small-append (gathered r.groups) r.last (groups_small r.groups r.each) (end_small _ _ _ r.ended) in
       let q = length (spelled r.groups) / 3 in
       let l : length vs ≡ 4 * q + length r.last = omega (arith, room, length-append (gathered r.groups) r.last) in
       let e = end_lower r.end after r.last vs q m r.ended small r.no_unlatch l le in

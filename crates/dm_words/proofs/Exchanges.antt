@@ -1,11 +1,10 @@
 -- Where FNC1 comes first, or second behind one codeword of ASCII, nothing is cheaper than ASCII: FNC1 has two values in
 -- a run and one codeword in ASCII.
-use Rattle.dm_words.proofs.Names.{◌≡◌, ℕ, ◌+◌, ◌-◌, ◌<◌, ◌≤◌, List, [], ◌∷◌, length, refl, ◌∙◌, arith, Bool, true}
-use Rattle.dm_words.proofs.Names.{false, cond, ltb, nat_le, ◌&&◌, min, nat_tests, CodeSet, C40, Text, X12, Extent}
-use Rattle.dm_words.proofs.Names.{Usual, Wide, Item, Byte, Fnc1, One, Two, Run, Edifact, Segment, Rest, Setting}
-use Rattle.dm_words.proofs.Names.{is_digit, Pairs, Groups, Going, Row, never, most_behind, unit_cost, is_basic}
-use Rattle.dm_words.proofs.Names.{set_values, stay, stay_edifact, has_edifact, segment_cost, least, cost_of, going_over}
-use Rattle.dm_words.proofs.Names.{parts_cost}
+use Rattle.dm_words.proofs.Names.{◌≡◌, ℕ, ◌+◌, ◌-◌, ◌<◌, ◌≤◌, List, [], ◌∷◌, length, refl, arith, Bool, true, false}
+use Rattle.dm_words.proofs.Names.{cond, ltb, nat_le, ◌&&◌, min, nat_tests, CodeSet, C40, Text, X12, Extent, Usual, Wide}
+use Rattle.dm_words.proofs.Names.{Item, Byte, Fnc1, One, Two, Run, Edifact, Segment, Rest, Setting, is_digit, Pairs}
+use Rattle.dm_words.proofs.Names.{Groups, Going, Row, never, most_behind, unit_cost, is_basic, set_values, stay}
+use Rattle.dm_words.proofs.Names.{stay_edifact, has_edifact, segment_cost, least, cost_of, going_over, parts_cost}
 use Rattle.dm_words.specs.inner.Costs.{row, owed, IsRightBegin}
 use Rattle.dm_words.specs.inner.Written.{HasShifts}
 use Rattle.dm_words.proofs.CostsMet.{pairs_of, pairs_is, begins, least_is, second_is, is_pair}
@@ -35,8 +34,7 @@ over_item : (set : CodeSet) (x : Item) (cost next : ℕ) (p : Pairs) → HasShif
 over_item C40 Fnc1 cost next p has n le = (omega (arith, le, n.none), omega (arith, le, n.one))
 over_item Text Fnc1 cost next p has n le = (omega (arith, le, n.none), omega (arith, le, n.one))
 over_item X12 x cost next p has n le = absurd has
-over_item C40 (Byte b) cost next p has n le =
-    over cost next p n (ltb b 128) (is_basic C40 b) (is_basic C40 (b - 128)) le
+over_item C40 (Byte b) cost next p has n le = over cost _ p n (ltb b 128) (is_basic C40 b) (is_basic C40 (b - 128)) le
 over_item Text (Byte b) cost next p has n le =
     over cost next p n (ltb b 128) (is_basic Text b) (is_basic Text (b - 128)) le
 
@@ -61,10 +59,7 @@ no_second_group g none false = omega arith
 
 -- A segment costs its latch and its length at least.
 segment_least : (bytes near : ℕ) → 2 + bytes ≤ segment_cost bytes near
-segment_least bytes near = by_test (nat_le near 249) where
-  by_test : (t : Bool) → 2 + bytes ≤ cond t (2 + bytes) (3 + bytes)
-  by_test true = omega arith
-  by_test false = omega arith
+segment_least bytes near = grind (arith, nat_tests, nat_le)
 
 -- The least cost is that of what costs no more than the others.
 one_least : (x : Item) (pair : Bool) (next : Row) (g : Going) → let cost = cost_of x pair next g in cost One ≤ cost Two
@@ -148,11 +143,14 @@ module _ (setting : Setting) (small : setting.behind ≤ most_behind) where
       let c = near C40 tt m in
       let t = near Text tt m in
       let most = cost_most setting m in
-      cost_least Fnc1 m
-      ∙ one_least Fnc1 false next (going_over setting.extent Fnc1 next) (omega (arith, most, small, few))
-      (omega (arith, c.two)) (omega (arith, t.two)) (omega (arith, most, small, few))
-      (rw (no_edifact setting.extent) (omega (arith, most, small, few))) (omega (arith, most, small, few))
-      (omega (arith, most, small, few))
+      cc (
+        cost_least Fnc1 m,
+        one_least Fnc1 false next (going_over setting.extent Fnc1 next)
+            (omega (arith, most, small, few)) (omega (arith, c.two)) (omega (arith, t.two)) (omega
+            (arith, most, small, few))
+            (rw (no_edifact setting.extent) (omega (arith, most, small, few))) (omega (arith, most, small, few))
+            (omega (arith, most, small, few)),
+      )
 
   fnc1_cost : (m : List Item) → length m ≤ 3122 → parts_cost setting (Fnc1 ∷ m) ≡ 1 + parts_cost setting m
   fnc1_cost m few = fnc1_first m few
@@ -185,17 +183,19 @@ module _ (setting : Setting) (small : setting.behind ≤ most_behind) where
       (going_over setting.extent (Byte b) next).segment.near in
       let e = no_groups_so next.edifact (omega (arith, f.edifact.0)) (has_edifact setting.extent (Byte b)) in
       let x = no_x12 next.x12 f.x12.0 (is_basic X12 b) in
-      cost_least (Byte b) (Fnc1 ∷ m)
-      ∙ one_least (Byte b) (is_digit b && false) next (going_over setting.extent (Byte b) next)
-      (rw (and_false (is_digit b), low) (omega (arith, cost, most, small, few)))
-      (rw low (low_run (parts_cost setting (Fnc1 ∷ m)) next.c40 (omega (arith, cost, f.c40.0, c.none)) cc40.two
-      (is_basic C40 b)))
-      (rw low (low_run (parts_cost setting (Fnc1 ∷ m)) next.text (omega (arith, cost, f.text.0, t.none)) ct.two
-      (is_basic Text b)))
-      (rw low (omega (arith, x, cost, most, small, few)))
-      (rw low (omega (arith, e, cost, most, small, few)))
-      (rw low (omega (arith, seg, f.bytes, cost, most, small, few)))
-      (rw low (omega (arith, f.rest, cost, most, small, few)))
+      cc (
+        cost_least (Byte b) (Fnc1 ∷ m),
+        one_least (Byte b) (is_digit b && false) next
+            (going_over setting.extent (Byte b) next)
+            (rw (and_false (is_digit b), low) (omega (arith, cost, most, small, few))) (rw low (low_run
+            (parts_cost setting (Fnc1 ∷ m)) next.c40 (omega (arith, cost, f.c40.0, c.none)) cc40.two
+            (is_basic C40 b))) (rw
+            low (low_run (parts_cost setting (Fnc1 ∷ m)) next.text (omega (arith, cost, f.text.0, t.none)) ct.two
+            (is_basic Text b))) (rw low (omega (arith, x, cost, most, small, few)))
+            (rw low (omega (arith, e, cost, most, small, few))) (rw low (omega
+            (arith, seg, f.bytes, cost, most, small, few)))
+            (rw low (omega (arith, f.rest, cost, most, small, few))),
+      )
 
   low_cost : (b : ℕ) (m : List Item) → b < 128 → length m ≤ 3121
       → parts_cost setting (Byte b ∷ Fnc1 ∷ m) ≡ 1 + parts_cost setting (Fnc1 ∷ m)
@@ -244,12 +244,14 @@ module _ (setting : Setting) (small : setting.behind ≤ most_behind) where
       let seg = segment_least (going_over setting.extent (Byte b) next).segment.bytes
       (going_over setting.extent (Byte b) next).segment.near in
       let e = no_groups_so next.edifact d.edifact (has_edifact setting.extent (Byte b)) in
-      cost_least (Byte b) (Byte c ∷ Fnc1 ∷ m)
-      ∙ two_least (Byte b) (is_digit b && is_digit c) next (going_over setting.extent (Byte b) next)
-      (rw (is_b, is_c, v.0) (omega (arith, second, low)))
-      (rw (v.1, is_b, is_c, v.0) (omega (arith, second, cost, d.c40, f.c40.1, cn.one)))
-      (rw (v.2, is_b, is_c, v.0) (omega (arith, second, cost, d.text, f.text.1, tn.one)))
-      (rw (v.3, is_b, is_c) (omega (arith, second, cost, d.x12, f.x12.1, most, small, few)))
-      (rw (is_b, is_c) (omega (arith, second, cost, e, most, small, few)))
-      (rw (is_b, is_c) (omega (arith, second, seg, d.bytes, f.bytes, low, cost, most, small, few)))
-      (rw (is_b, is_c) (omega (arith, second, d.rest, f.rest, cost, most, small, few)))
+      cc (
+        cost_least (Byte b) (Byte c ∷ Fnc1 ∷ m),
+        two_least (Byte b) (is_digit b && is_digit c) next
+            (going_over setting.extent (Byte b) next) (rw (is_b, is_c, v.0) (omega (arith, second, low)))
+            (rw (v.1, is_b, is_c, v.0) (omega (arith, second, cost, d.c40, f.c40.1, cn.one)))
+            (rw (v.2, is_b, is_c, v.0) (omega (arith, second, cost, d.text, f.text.1, tn.one)))
+            (rw (v.3, is_b, is_c) (omega (arith, second, cost, d.x12, f.x12.1, most, small, few)))
+            (rw (is_b, is_c) (omega (arith, second, cost, e, most, small, few)))
+            (rw (is_b, is_c) (omega (arith, second, seg, d.bytes, f.bytes, low, cost, most, small, few)))
+            (rw (is_b, is_c) (omega (arith, second, d.rest, f.rest, cost, most, small, few))),
+      )

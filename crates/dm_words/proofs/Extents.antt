@@ -44,8 +44,7 @@ part_wider place words after items (run set r) =
 joined_wider : (place : ℕ) (ps : List (Piece (List Item))) (after : List ℕ)
     → AreJoined (IsPart Usual) place ps after → AreJoined (IsPart Wide) place ps after
 joined_wider place [] after h = tt
-joined_wider place (p ∷ ps) after h =
-    (part_wider place p.words (spelled ps ++ after) p.what h.0, joined_wider (place + length p.words) ps after h.1)
+joined_wider place (p ∷ ps) after h = (part_wider _ _ _ _ h.0, joined_wider (place + length p.words) ps after h.1)
 
 -- So are parts of a content.
 said_joined_wider : (place : ℕ) (ps : List (Piece Said)) (after : List ℕ)
@@ -82,8 +81,7 @@ wide_parts words l s = by_opening s.opened.is_opening where
       } in
       record {
         said = s.said;
-        parts = subst (λ (w : List ℕ). AreContentParts Wide 1 w s.said) (sym whole)
-            (subst (λ (p : ℕ). AreContentParts Wide p s.more s.said) place parts);
+        parts = subst (λ (w : List ℕ). AreContentParts Wide 1 w s.said) (sym whole) (rw place at parts);
         content_is = s.content_is ∙ ap (λ (o : Opening). said_content o s.said) is;
       }
 

@@ -40,9 +40,8 @@ same_opened : (words : List ℕ) (o p : Opening) (s t : ℕ) (us vs : List ℕ) 
 same_opened words o p s t us vs a b =
     let count : length a.first ≡ length b.first =
     one_count (opened Wide words) (record { opening = o; count = length a.first })
-    (record { opening = p; count = length b.first })
-    (ap (opened Wide) a.whole ∙ openings.complete Wide a.first us o a.is_opening)
-    (ap (opened Wide) b.whole ∙ openings.complete Wide b.first vs p b.is_opening) in
+    (record { opening = p; count = length b.first }) (ap (opened Wide) a.whole ∙ openings.complete _ _ _ o a.is_opening)
+    (ap (opened Wide) b.whole ∙ openings.complete _ _ _ p b.is_opening) in
     (omega (arith, count, a.place_is, b.place_is), same_rest a.first b.first us vs count (sym a.whole ∙ b.whole))
 
 -- ---- FNC1 where the parts begin
@@ -104,11 +103,9 @@ alone_by start (p ∷ ps) after more joined e k =
     let none : spelled ps ≡ [] = nil_from_length (spelled ps) (omega (arith, sum, k, c.1)) in
     let w = one_first p.words (omega (arith, sum, k, c.1)) in
     let rest : spelled ps ++ 232 ∷ after ≡ 232 ∷ after = ap (λ (l : List ℕ). l ++ 232 ∷ after) none in
-    let whole : more ≡ w.0 ∷ 232 ∷ after = e ∙ ap (λ (l : List ℕ). l ++ 232 ∷ after)
-    (ap (λ (l : List ℕ). l ++ spelled ps) w.1 ∙ ap (λ (l : List ℕ). w.0 ∷ l) none) in
+    let whole : more ≡ w.0 ∷ 232 ∷ after = cc in
     let there : IsContentPart Wide start (w.0 ∷ []) (232 ∷ after) p.what =
-    subst (λ (l : List ℕ). IsContentPart Wide start l (232 ∷ after) p.what) w.1
-    (subst (λ (l : List ℕ). IsContentPart Wide start p.words l p.what) rest joined.0) in
+    subst (λ (l : List ℕ). IsContentPart Wide start l (232 ∷ after) p.what) w.1 (rw rest at joined.0) in
     (w.0, 232 ∷ after, whole, record { after = after; said = p.what; whole = refl; taken = there })
 
 -- It is the second codeword behind the opening.
@@ -267,7 +264,6 @@ by_rest words o start behind more there_is at no_macro = by_list more refl where
   not_first : (w : ℕ) (ms : List ℕ) → more ≡ w ∷ ms → (w == 232) ≡ false → IsFnc1At words (behind + 1) → ⊥
   not_first w ms e other x =
       let b = begins words o start more there_is (subst (IsFnc1At words) (sym at) x) in
-      let same : w ≡ 232 = (let f : w ∷ ms ≡ 232 ∷ b.0 = sym e ∙ b.1 in cc) in
       absurd (grind (arith, nat_tests))
 
   -- What the second codeword is where FNC1 stands there.
@@ -314,7 +310,6 @@ by_rest words o start behind more there_is at no_macro = by_list more refl where
   by_two w m ms e other false is =
       symbology.neither (not_first w (m ∷ ms) e other)
       (λ x. let f = if_second x in let g : w ∷ m ∷ ms ≡ f.0 ∷ f.1 = sym e ∙ f.2 in let rest : m ∷ ms ≡ f.1 = cc in
-      let after : m ∷ ms ≡ 232 ∷ f.3.after = rest ∙ f.3.whole in let same : m ≡ 232 = cc in
       absurd (grind (arith, nat_tests))) refl
 
   by_more : (w m : ℕ) (ms : List ℕ) → more ≡ w ∷ m ∷ ms → (t : Bool) → (w == 232) ≡ t
@@ -335,7 +330,6 @@ by_rest words o start behind more there_is at no_macro = by_list more refl where
 pub other_word : (w : ℕ) (k : Codeword) → codeword_of w ≡ Some k → (k ≡ codeword.Fnc1 → ⊥) → (w == 232) ≡ true → ⊥
 other_word w k e other is =
     let same : w ≡ 232 = grind (arith, nat_tests) in
-    let f : Some k ≡ Some codeword.Fnc1 = sym e ∙ ap codeword_of same in
     let g : k ≡ codeword.Fnc1 = cc in other g
 
 -- Behind a macro FNC1 can stand second, and behind empty runs and a macro it is neither.
@@ -368,7 +362,6 @@ by_frame words o start more [] word digit there_is at empty k = by_more more ref
   by_second m ms e false is =
       symbology.neither not_first
       (λ x. let b = begins words o start more there_is (subst (IsFnc1At words) (sym place) x) in
-      let same : m ≡ 232 = (let f : m ∷ ms ≡ 232 ∷ b.0 = sym e ∙ b.1 in cc) in
       absurd (grind (arith, nat_tests))) refl
 
   by_first : (m : ℕ) (ms : List ℕ) → more ≡ m ∷ ms → (t : Bool) → (word == 232) ≡ t
@@ -402,14 +395,12 @@ parts_begin start more said are w digit ms e k = by_parts are.parts are.joined a
   by_parts [] joined ended is = by_end are.after ended is
   by_parts (p ∷ ps) joined ended is =
       let c = content_part_complete Wide start p.words (spelled ps ++ are.after) p.what joined.0 in
-      let whole : w ∷ ms ≡ p.words ++ (spelled ps ++ are.after) = sym e ∙ is
-      ∙ append_assoc p.words (spelled ps) are.after in
+      let whole : w ∷ ms ≡ p.words ++ (spelled ps ++ are.after) = cc (append_assoc p.words (spelled ps) are.after) in
       let taken = ap (first_content_part Wide start) whole ∙ c.0 in
       let eci : w ≡ 241 → ⊥ = λ same. (let g : Some (codeword.Macro digit) ≡ Some codeword.LeftOut = sym k
       ∙ ap codeword_of same in cc) in
-      let stops : first_content_part Wide start (w ∷ ms)
-      ≡ as_said (part_by Wide start w ms (Some (codeword.Macro digit))) =
-      as_part Wide start w ms (λ wide. eci) ∙ ap (λ (m : Option Codeword). as_said (part_by Wide start w ms m)) k in
+      let stops : first_content_part Wide start (w ∷ ms) ≡ as_said
+      (part_by Wide start w ms (Some (codeword.Macro digit))) = cc (as_part Wide start w ms (λ wide. eci)) in
       let g = sym stops ∙ taken in absurd (cc)
 
 -- The words that say a content have its head first, and a number by what follows.
@@ -425,16 +416,14 @@ identified words l said = rw (ap (λ (x : ContentView). x.head) said.content_is)
       let only = (heads.head_only said.opened.first h s).1 in
       let count : length said.opened.first ≡ length (head_words (Some h)) = ap length only in
       let behind : drop (length (head_words (Some h))) words ≡ said.more =
-      ap (λ (n : ℕ). drop n words) (sym count) ∙ ap (drop (length said.opened.first)) said.opened.whole
-      ∙ drop-append_seam said.opened.first said.more in
+      cc (said.opened.whole, drop-append_seam said.opened.first said.more) in
       rw is (
         omega (arith, ap length said.opened.whole, length-append said.opened.first said.more, count),
         rw behind (by_rest words said.opening said.place (length (head_words (Some h))) said.more said.opened
             (omega (arith, said.opened.place_is, count)) (parts_begin said.place said.more said.said said.parts)),
       )
   by_kind (framed digit wide f is) =
-      let whole : (f.runs ++ f.word ∷ []) ++ said.more ≡ words =
-      ap (λ (x : List ℕ). x ++ said.more) (sym f.whole) ∙ sym said.opened.whole in
+      let whole : (f.runs ++ f.word ∷ []) ++ said.more ≡ words = cc in
       rw is (
         omega arith,
         subst (λ (x : List ℕ). IsFnc1Number words 0 (fnc1_number x)) whole
@@ -462,22 +451,13 @@ some_marks (m ∷ marks) e = refl
 
 -- Codewords have one number by their first two behind a head.
 pub one_number : (words : List ℕ) (behind m n : ℕ) → IsFnc1Number words behind m → IsFnc1Number words behind n → m ≡ n
-one_number words behind m n (symbology.first x e) (symbology.first y f) = e ∙ sym f
-one_number words behind m n (symbology.first x e) (symbology.second none y f) = absurd (none x)
-one_number words behind m n (symbology.first x e) (symbology.neither none nor f) = absurd (none x)
-one_number words behind m n (symbology.second none x e) (symbology.first y f) = absurd (none y)
-one_number words behind m n (symbology.second none x e) (symbology.second nay y f) = e ∙ sym f
-one_number words behind m n (symbology.second none x e) (symbology.neither nay other f) = absurd (other x)
-one_number words behind m n (symbology.neither none nor e) (symbology.first y f) = absurd (none y)
-one_number words behind m n (symbology.neither none nor e) (symbology.second other y f) = absurd (nor y)
-one_number words behind m n (symbology.neither none nor e) (symbology.neither other others f) = e ∙ sym f
+one_number words behind m n h1 h2 = grind (arith, nat_tests)
 
 -- Codewords that say a content have at most one identifier.
 pub identifier_is_one : (words : List ℕ) (l : ContentView) (a b : ℕ) → IsIdentifier words l a → IsIdentifier words l b
     → a ≡ b
 identifier_is_one words l a b x y =
-    x.number_is ∙ ap (λ (n : ℕ). n + marks_number l.marks)
-    (one_number words (length (head_words l.head)) x.fnc1 y.fnc1 x.is_fnc1 y.is_fnc1) ∙ sym y.number_is
+    cc (x.number_is, one_number words (length (head_words l.head)) x.fnc1 y.fnc1 x.is_fnc1 y.is_fnc1, y.number_is)
 
 -- And they have one.
 pub identifier_is_there : (words : List ℕ) (l : ContentView) → Says Wide words l
@@ -493,8 +473,6 @@ pub identifier_of : (words : List ℕ) (l : ContentView) (h : Option Head) (n nu
     → total ≡ number + marks_number l.marks → IsIdentifier words l total
 identifier_of words l h n number total said head count is all =
     let i = identified words l said in
-    let same : n ≡ length (head_words l.head) = count ∙ ap (λ (x : Option Head). length (head_words x)) head in
     let whole : take (length words - n) (drop n words) ≡ drop (length (head_words l.head)) words =
-    take_rest words n
-    ∙ ap (λ (k : ℕ). drop k words) same in
+    cc (take_rest words n) in
     record { fnc1 = number; is_fnc1 = rw (is, whole) i.1; number_is = all }

@@ -1,6 +1,6 @@
 -- Items that begin with the header of a macro and end with its trailer.
 use Rattle.dm_words.proofs.Names.{◌≡◌, ℕ, zero, suc, ◌+◌, ◌-◌, ◌<◌, ◌≤◌, List, [], ◌∷◌, ◌++◌, length, take, drop}
-use Rattle.dm_words.proofs.Names.{get_or, add-one, append_assoc, refl, sym, ap, subst, ◌∙◌, arith, length-append}
+use Rattle.dm_words.proofs.Names.{get_or, add-one, append_assoc, refl, ap, subst, ◌∙◌, arith, length-append}
 use Rattle.dm_words.proofs.Names.{take-append-drop, drop-drop, take-suc, drop-append_seam, Item, Byte, Fnc1, byte_items}
 use Rattle.dm_words.proofs.Names.{macro_header, macro_trailer, macro_text, BeginsFnc1, FramesFnc1, inner_text}
 use Rattle.dm_words.proofs.SegmentLoops.{byte_items-append}
@@ -19,9 +19,7 @@ pub bytes_so_far : (m : List Item) (bytes : List ℕ) (i : ℕ) (d : Item) → i
 bytes_so_far m bytes i d there within so_far is =
     let more : take (i + 1) m ≡ take i m ++ get_or m i d ∷ [] = rw add-one (take-suc m i d there) in
     let next : take (i + 1) bytes ≡ take i bytes ++ get_or bytes i 0 ∷ [] = rw add-one (take-suc bytes i 0 within) in
-    more ∙ ap (λ (l : List Item). l ++ get_or m i d ∷ []) so_far
-    ∙ ap (λ (x : Item). byte_items (take i bytes) ++ x ∷ []) is
-    ∙ sym (byte_items-append (take i bytes) (get_or bytes i 0 ∷ [])) ∙ ap byte_items (sym next)
+    cc (byte_items-append (take i bytes) (get_or bytes i 0 ∷ []))
 
 -- Items that begin with a header and end with the trailer are the text of a macro.
 pub is_framed : (m : List Item) (digit : ℕ) → 9 ≤ length m → take 7 m ≡ macro_header digit → drop (length m - 2) m
@@ -29,9 +27,7 @@ pub is_framed : (m : List Item) (digit : ℕ) → 9 ≤ length m → take 7 m �
 is_framed m digit long header trailer =
     let behind : drop (length m - 2 - 7) (drop 7 m) ≡ macro_trailer = drop-drop (length m - 2 - 7) 7 m
     ∙ ap (λ (k : ℕ). drop k m) (omega (arith, long)) ∙ trailer in
-    sym (take-append-drop 7 m) ∙ ap (λ (l : List Item). l ++ drop 7 m) header
-    ∙ ap (λ (l : List Item). macro_header digit ++ l) (sym (take-append-drop (length m - 2 - 7) (drop 7 m)))
-    ∙ ap (λ (l : List Item). macro_header digit ++ (inner_text m ++ l)) behind
+    cc (take-append-drop 7 m, take-append-drop (length m - 2 - 7) (drop 7 m))
 
 -- The text of a macro is that long, begins with the header and ends with the trailer.
 pub frame_is : (m : List Item) (digit : ℕ) (text : List Item) → m ≡ macro_text digit text
@@ -42,22 +38,13 @@ frame_is m digit text is =
     let k : length m - 2 ≡ length front = omega (arith, n) in (
       omega (arith, n),
       ap (take 7) is,
-      ap (λ (j : ℕ). drop j m) k
-          ∙ ap (drop (length front)) (is ∙ sym (append_assoc (macro_header digit) text macro_trailer))
-          ∙ drop-append_seam front macro_trailer,
+      cc (append_assoc (macro_header digit) text macro_trailer, drop-append_seam front macro_trailer),
     )
 
 -- Where FNC1 doesn't come first between a header and a trailer, these frame no FNC1.
 pub frames_not : (m : List Item) (digit : ℕ) (text : List Item) → m ≡ macro_text digit text → (BeginsFnc1 text → ⊥)
     → FramesFnc1 m → ⊥
-frames_not m digit text is none f = by_texts text f.1 (sym is ∙ f.2) none f.3 where
-  by_texts : (text other : List Item) → macro_text digit text ≡ macro_text f.0 other → (BeginsFnc1 text → ⊥)
-      → BeginsFnc1 other → ⊥
-  by_texts text [] e none b = b
-  by_texts text (Byte byte ∷ other) e none b = b
-  by_texts [] (Fnc1 ∷ other) e none b = absurd cc
-  by_texts (Byte byte ∷ text) (Fnc1 ∷ other) e none b = absurd cc
-  by_texts (Fnc1 ∷ text) (Fnc1 ∷ other) e none b = none tt
+frames_not m digit text h1 h2 h3 = grind (arith, macro_text)
 
 -- FNC1 that comes first between them comes first in the text.
 pub fnc1_inside : (m : List Item) (digit : ℕ) (text : List Item) (count : ℕ) → m ≡ macro_text digit text

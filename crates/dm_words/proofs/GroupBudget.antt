@@ -1,10 +1,9 @@
 -- A run of EDIFACT that follows the plan stays within its budget.
 use Rattle.dm_words.proofs.Names.{◌≡◌, ◌⊎◌, inl, inr, ℕ, suc, ◌+◌, ◌<◌, ◌≤◌, List, [], ◌∷◌, length, drop, get_or, refl}
-use Rattle.dm_words.proofs.Names.{sym, ap, subst, ◌∙◌, arith, Bool, true, false, cond, nat_le, not, nat_tests}
-use Rattle.dm_words.proofs.Names.{length-drop, at_drop_more, length-append, Extent, Setting, Usual, Wide, Item, Byte}
-use Rattle.dm_words.proofs.Names.{Fnc1, Groups, Group, never, no_groups, leave, or_leave_edifact, has_edifact}
-use Rattle.dm_words.proofs.Names.{stay_edifact, byte_before, going_from, parts_cost, IsRightStep, waiting_values}
-use Rattle.dm_words.proofs.Names.{IsGroupPushed, IsEdifactEnded}
+use Rattle.dm_words.proofs.Names.{sym, ◌∙◌, arith, Bool, true, false, nat_le, not, nat_tests, length-drop, at_drop_more}
+use Rattle.dm_words.proofs.Names.{length-append, Extent, Setting, Usual, Wide, Item, Byte, Fnc1, Groups, Group, never}
+use Rattle.dm_words.proofs.Names.{no_groups, leave, or_leave_edifact, has_edifact, stay_edifact, byte_before}
+use Rattle.dm_words.proofs.Names.{going_from, parts_cost, IsRightStep, waiting_values, IsGroupPushed, IsEdifactEnded}
 use Rattle.dm_words.specs.inner.Costs.{Step, owed_group, row}
 use Rattle.dm_words.specs.declared.smallest.edifact.Group.TheVariants as group
 use Rattle.dm_words.specs.inner.Written.{whole_words, group_stops}
@@ -22,14 +21,7 @@ stops_are : (setting : Setting) (m : List Item) (s : Step) (g : Group) → IsRig
     → group_stops g s
     ≡ stops_by g (nat_le (leave 2 (parts_cost setting m)) (going_from setting m).edifact.none)
     (nat_le (parts_cost setting m) (going_from setting m).edifact.three)
-stops_are setting m s g r = by_group g where
-  by_group : (g : Group) → group_stops g s
-      ≡ stops_by g (nat_le (leave 2 (parts_cost setting m)) (going_from setting m).edifact.none)
-      (nat_le (parts_cost setting m) (going_from setting m).edifact.three)
-  by_group group.Empty = ap (λ (t : Step). t.edifact_ends) r.ends
-  by_group (group.One x) = refl
-  by_group (group.Two x y) = refl
-  by_group (group.Three x y z) = ap (λ (t : Step). t.group_ends) r.ends
+stops_are setting m s g h1 = grind (arith, nat_tests, group_stops, stops_by, nat_le, parts_cost, going_from)
 
 -- The costs of a run are those of going on, or of leaving.
 edifact_are : (setting : Setting) (m : List Item) → (row setting m).edifact
@@ -44,12 +36,7 @@ goes_on : (g : Group) (cost words total : ℕ) (over : Groups)
     → stops_by g (nat_le (leave 2 cost) over.none) (nat_le cost over.three) ≡ false
     → words + owed_group (length (waiting_values g)) over ≤ total
 unfolding owed_group
-goes_on group.Empty cost words total over b small goes = let lt : over.none < leave 2 cost =
-    grind (arith, nat_tests) in omega (arith, lt, b)
-goes_on (group.One x) cost words total over b small goes = omega (arith, b, small)
-goes_on (group.Two x y) cost words total over b small goes = omega (arith, b, small)
-goes_on (group.Three x y z) cost words total over b small goes = let lt : over.three < cost =
-    grind (arith, nat_tests) in omega (arith, lt, b)
+goes_on g cost words total over h1 h2 h3 = grind (arith, nat_tests)
 
 -- Where a run ends, it can pay for leaving.
 leaves : (g : Group) (cost words total : ℕ) (over : Groups)
@@ -68,19 +55,13 @@ leaves (group.Three x y z) cost words total over b stops = let le : cost ≤ ove
 -- Values that stand cost nothing less than themselves.
 owed_some : (g : Group) (next : Groups) → length (waiting_values g) ≤ owed_group (length (waiting_values g)) next
 unfolding owed_group
-owed_some group.Empty next = omega arith
-owed_some (group.One x) next = omega arith
-owed_some (group.Two x y) next = omega arith
-owed_some (group.Three x y z) next = omega arith
+owed_some g next = grind (arith, nat_tests)
 
 -- No run goes on where none can.
 never_on : (g : Group) (words total : ℕ) → total < never
     → words + owed_group (length (waiting_values g)) no_groups ≤ total → ⊥
 unfolding owed_group
-never_on group.Empty words total small b = omega (arith, small, b)
-never_on (group.One x) words total small b = omega (arith, small, b)
-never_on (group.Two x y) words total small b = omega (arith, small, b)
-never_on (group.Three x y z) words total small b = omega (arith, small, b)
+never_on g words total h1 h2 = grind (arith, nat_tests)
 
 -- What is known of an item where a run goes on.
 record IsHeld (extent : Extent) (x : Item) : Type 0 where
@@ -110,8 +91,7 @@ over_paid extent x g words total next b small = by_test (has_edifact extent x) r
   by_test true e b =
       let r = length (waiting_values g) in
       let one : suc r ≡ r + 1 = omega arith in
-      let o : owed_group r (byte_before next) ≡ owed_group (r + 1) next = owed_byte r next
-      ∙ ap (λ (n : ℕ). owed_group n next) one in
+      let o : owed_group r (byte_before next) ≡ owed_group (r + 1) next = cc (owed_byte r next) in
       (held extent x e, omega (arith, b, o))
 
 -- What is known at an index where a run goes on.
@@ -132,9 +112,7 @@ paid_at : (setting : Setting) (m : List Item) (i : ℕ) (d : Item) (g : Group) (
 paid_at setting m i d g words total lt b small =
     let cons : drop i m ≡ get_or m i d ∷ drop (i + 1) m = at_drop_more (λ (l : List Item). l) m i d lt in
     let here : words + owed_group (length (waiting_values g))
-    (going_from setting (get_or m i d ∷ drop (i + 1) m)).edifact ≤ total =
-    subst (λ (l : List Item). words + owed_group (length (waiting_values g)) (going_from setting l).edifact ≤ total)
-    cons b in
+    (going_from setting (get_or m i d ∷ drop (i + 1) m)).edifact ≤ total = rw cons at b in
     let h = over_paid setting.extent (get_or m i d) g words total (row setting (drop (i + 1) m)).edifact here small in
     record { there = lt; wide = h.0.wide; byte = h.0.byte; is = h.0.is; low = h.0.low; high = h.0.high; budget = h.1 }
 
@@ -190,19 +168,13 @@ unfolding owed_group
 after_value group.Empty g' v total old new next p b = rw (p.0, p.1) b
 after_value (group.One x) g' v total old new next p b = rw (p.0, p.1) b
 after_value (group.Two x y) g' v total old new next p b = rw (p.0, p.1) b
-after_value (group.Three x y z) g' v total old new next p b =
-    let l : length new
-    ≡ length old + 3 = omega (arith, ap length p.1.2, length-append old p.1.0, ap length p.1.1.words_are) in
-    rw p.0 (omega (arith, b, l))
+after_value (group.Three x y z) g' v total old new next p b = grind (arith, length-append)
 
 -- A value is pushed within the budget.
 pub value_room : (g : Group) (words total : ℕ) (next : Groups)
     → words + owed_group (length (waiting_values g) + 1) next ≤ total → words + whole_words g ≤ total
 unfolding owed_group
-value_room group.Empty words total next b = omega (arith, b)
-value_room (group.One x) words total next b = omega (arith, b)
-value_room (group.Two x y) words total next b = omega (arith, b)
-value_room (group.Three x y z) words total next b = omega (arith, b)
+value_room g words total next h1 = grind (arith, nat_tests)
 
 -- The values that stand fit.
 pub waiting_room : (g : Group) (words total : ℕ) (next : Groups)
@@ -214,32 +186,4 @@ pub ended_budget : (g : Group) (total cost : ℕ) (old new : List ℕ)
     → ((length (waiting_values g) ≡ 0) × (length old + leave 2 cost ≤ total)) ⊎
     ((length (waiting_values g) ≡ 3) × (length old + 3 + cost ≤ total))
     → IsEdifactEnded g total old new → length new + cost ≤ total
-ended_budget group.Empty total cost old new paid ended =
-    elim paid [
-      | inl p ↦ elim ended [
-        | inl more ↦ (let l : length new
-            ≡ length old + 1 =
-            omega (arith, ap length more.1, length-append old (124 ∷ [])) in by_test (nat_le cost 2) refl p.1 l more.0)
-        | inr few ↦ (let l : length new ≡ length old = ap length few.1 in at_most (nat_le cost 2) p.1 l)
-      ]
-      | inr p ↦ absurd (omega (arith, p.0))
-    ] where
-      by_test : (t : Bool) → nat_le cost 2 ≡ t → length old + cond t cost (1 + cost) ≤ total → length new
-          ≡ length old + 1 → length old + 2 < total → length new + cost ≤ total
-      by_test true e b l more = let le : cost ≤ 2 = grind (arith, nat_tests) in omega (arith, le, l, more)
-      by_test false e b l more = omega (arith, b, l)
-
-      at_most : (t : Bool) → length old + cond t cost (1 + cost) ≤ total → length new ≡ length old
-          → length new + cost ≤ total
-      at_most true b l = omega (arith, b, l)
-      at_most false b l = omega (arith, b, l)
-ended_budget (group.One x) total cost old new paid ended =
-    absurd (elim paid [ inl p ↦ omega (arith, p.0) | inr p ↦ omega (arith, p.0) ])
-ended_budget (group.Two x y) total cost old new paid ended =
-    absurd (elim paid [ inl p ↦ omega (arith, p.0) | inr p ↦ omega (arith, p.0) ])
-ended_budget (group.Three x y z) total cost old new paid ended =
-    elim paid [
-      | inl p ↦ absurd (omega (arith, p.0))
-      | inr p ↦ (let push =
-          ended.1 in omega (arith, p.1, ap length push.1.2, length-append old push.1.0, ap length push.1.1.words_are))
-    ]
+ended_budget g total cost old new h1 h2 = grind (arith, nat_tests, length-append, nat_le)

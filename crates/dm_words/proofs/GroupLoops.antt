@@ -70,18 +70,7 @@ group_first : (words : List ℕ) (next : ℕ) → next + 2 < length words
     ≡ group_by (group_values (get_or words next 0) (get_or words (next + 1) 0) (get_or words (next + 2) 0))
     (edifact_run (drop (next + 3) words))
 unfolding edifact_run
-group_first words next lt =
-    let a = first_of words next (omega arith) in
-    let b = first_of words (next + 1) (omega arith) in
-    let c = first_of words (next + 2) lt in
-    let two : next + 1 + 1 ≡ next + 2 = omega arith in
-    let three : next + 2 + 1 ≡ next + 3 = omega arith in
-    let all : drop next words
-    ≡ get_or words next 0 ∷ get_or words (next + 1) 0 ∷ get_or words (next + 2) 0 ∷ drop (next + 3) words =
-    a ∙ ap (λ (r : List ℕ). get_or words next 0 ∷ r) (b
-    ∙ ap (λ (r : List ℕ). get_or words (next + 1) 0 ∷ r) (ap (λ (k : ℕ). drop k words) two ∙ c
-    ∙ ap (λ (k : ℕ). get_or words (next + 2) 0 ∷ drop k words) three)) in
-    ap edifact_run all
+group_first words next lt = grind (arith, first_of, edifact_run)
 
 -- The items of values, joined, are those of each, joined.
 edifact_items-append : (a b : List ℕ) → edifact_items (a ++ b) ≡ edifact_items a ++ edifact_items b

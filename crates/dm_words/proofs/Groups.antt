@@ -1,9 +1,9 @@
 -- A run of EDIFACT that the scan finds is a run of the definition.
-use Rattle.dm_words.proofs.Names.{◌≡◌, ◌≢◌, ℕ, suc, ◌+◌, ◌*◌, ◌/◌, ◌%◌, ◌<◌, ◌≤◌, List, [], ◌∷◌, ◌++◌, length, map}
-use Rattle.dm_words.proofs.Names.{take, drop, refl, sym, ap, ◌∙◌, append_assoc, arith, Bool, true, false, eqb, Some}
-use Rattle.dm_words.proofs.Names.{zero-add, AllByRecursion, eqb-true, nat_tests, length-append, length-map, Item}
-use Rattle.dm_words.proofs.Names.{codeword_of, Piece, spelled, gathered, IsGroup, edifact_byte, IsEdifactEnd, few_left}
-use Rattle.dm_words.proofs.Names.{first, second, third, fourth, IsEdifactRun, group_values, group_by, edifact_items}
+use Rattle.dm_words.proofs.Names.{◌≡◌, ◌≢◌, ℕ, suc, ◌+◌, ◌*◌, ◌/◌, ◌%◌, ◌<◌, ◌≤◌, List, [], ◌∷◌, ◌++◌, length, take}
+use Rattle.dm_words.proofs.Names.{drop, refl, sym, ap, ◌∙◌, append_assoc, arith, Bool, true, false, eqb, Some, zero-add}
+use Rattle.dm_words.proofs.Names.{AllByRecursion, eqb-true, nat_tests, length-append, length-map, Item, codeword_of}
+use Rattle.dm_words.proofs.Names.{Piece, spelled, gathered, IsGroup, edifact_byte, IsEdifactEnd, few_left, first}
+use Rattle.dm_words.proofs.Names.{second, third, fourth, IsEdifactRun, group_values, group_by, edifact_items}
 use Rattle.dm_words.specs.declared.codeword.Codeword.TheVariants as codeword
 use Rattle.dm_words.specs.Edifact.{unlatch_value}
 use Rattle.dm_words.specs.inner.Scan.Prefixes.{edifact_run}
@@ -185,10 +185,7 @@ group_again a b c v w x y lb lc lv lw lx ly e = (omega arith, omega arith, omega
 values_found : (words values more : List ℕ) → IsGroup words values → edifact_run (words ++ more)
     ≡ group_by values (edifact_run more)
 unfolding edifact_run
-values_found words values more g =
-    let is = group_again g.high g.middle g.low g.first g.second g.third g.fourth g.middle_is_byte g.low_is_byte
-    g.first_small g.second_small g.third_small g.fourth_small g.number in
-    rw (g.words_are, g.values_are, is.0, is.1, is.2, is.3) refl
+values_found words values more g = grind (arith, group_again)
 
 -- A value that isn't the unlatch is found not to be.
 pub is_not : (v : ℕ) → v ≢ 31 → eqb v 31 ≡ false
@@ -197,10 +194,7 @@ is_not v ne = grind (arith, nat_tests)
 -- At most two codewords are no group.
 pub border_found : (words : List ℕ) → length words ≤ 2 → edifact_run words ≡ (0, [])
 unfolding edifact_run
-border_found [] le = refl
-border_found (a ∷ []) le = refl
-border_found (a ∷ b ∷ []) le = refl
-border_found (a ∷ b ∷ c ∷ more) le = absurd (omega arith)
+border_found words h1 = grind (arith, nat_tests)
 
 -- An unlatch that is the first value of a group is found.
 first_found : (word rest : ℕ) (after : List ℕ) → word ≡ 4 * 31 + rest → rest < 4 → 2 ≤ length after
@@ -216,10 +210,7 @@ second_found : (high low value rest : ℕ) (after : List ℕ) → low < 256 → 
     → edifact_run (high ∷ low ∷ after) ≡ (2, value ∷ [])
 unfolding edifact_run
 second_found high low value rest [] small is lt ne le = absurd (omega arith)
-second_found high low value rest (c ∷ more) small is lt ne le =
-    let e : high / 4 ≡ value = omega (arith, is) in
-    let f : high % 4 * 16 + low / 16 ≡ 31 = omega (arith, is) in
-    rw (e, f, is_not value ne) refl
+second_found high low value rest (c ∷ more) small is lt ne le = grind (arith, is_not)
 
 -- The end of a run is found.
 end_found : (end after last : List ℕ) → IsEdifactEnd end after last → NoUnlatch last → edifact_run (end ++ after)
@@ -246,8 +237,7 @@ whole_group : (words values more : List ℕ) (n : ℕ) (rest others : List ℕ) 
     → (edifact_run (words ++ more) ≡ (length words + n, values ++ rest))
 whole_group words values more n rest others g none e =
     let d : NoUnlatch (g.first ∷ g.second ∷ g.third ∷ g.fourth ∷ others) = rw g.values_are at none in
-    values_found words values more g
-    ∙ rw (
+    values_found _ _ more g ∙ rw (
       e,
       g.values_are,
       is_not g.first d.0,
@@ -262,22 +252,16 @@ groups_found : (groups : List (Piece (List ℕ))) (end after last : List ℕ)
     → AllByRecursion (λ p. IsGroup p.words p.what) groups → IsEdifactEnd end after last
     → NoUnlatch (gathered groups ++ last)
     → edifact_run (spelled groups ++ (end ++ after)) ≡ (length (spelled groups) + length end, gathered groups ++ last)
-groups_found [] end after last each ended none = end_found end after last ended none
-    ∙ ap (λ (k : ℕ). (let r : ℕ × List ℕ = (k, last) in r)) (sym (zero-add (length end)))
+groups_found [] end after last each ended none = cc (end_found end after last ended none, zero-add (length end))
 groups_found (p ∷ groups) end after last each ended none =
     let assoc = append_assoc p.what (gathered groups) last in
     let all : NoUnlatch (p.what ++ (gathered groups ++ last)) = rw assoc at none in
     let rest = groups_found groups end after last each.1 ended (NoUnlatch-right p.what (gathered groups ++ last) all) in
-    let one =
-    whole_group p.words p.what (spelled groups ++ (end ++ after)) _ _ (gathered groups ++ last) each.0 all rest in
-    let grouped : (p.words ++ spelled groups) ++ (end ++ after) ≡ p.words ++ (spelled groups ++ (end ++ after)) =
-    append_assoc p.words (spelled groups) (end ++ after) in
+    let one = whole_group _ _ (spelled groups ++ (end ++ after)) _ _ (gathered groups ++ last) each.0 all rest in
+    let grouped : (p.words ++ spelled groups) ++ (end ++ after) ≡ p.words ++ (spelled groups ++ (end ++ after)) = cc in
     let len : length p.words + (length (spelled groups) + length end)
     ≡ length (p.words ++ spelled groups) + length end = omega (arith, length-append p.words (spelled groups)) in
-    ap edifact_run grouped ∙ one
-    ∙ ap (λ (k : ℕ). (let r : ℕ × List ℕ = (k, p.what ++ (gathered groups ++ last)) in r)) len
-    ∙ ap (λ (x : List ℕ). (let r : ℕ × List ℕ = (length (p.words ++ spelled groups) + length end, x) in r))
-    (sym assoc)
+    cc
 
 -- The words begin with a latch to EDIFACT, and a run with this many words and these items is found there.
 pub record EdifactFound (words : List ℕ) (n : ℕ) (items : List Item) : Type 0 where
@@ -298,8 +282,7 @@ edifact_complete words after items r =
       record {
         latch = r.latch;
         others = spelled r.groups ++ (r.end ++ after);
-        whole = ap (λ (x : List ℕ). x ++ after) r.whole
-            ∙ ap (λ (x : List ℕ). r.latch ∷ x) (append_assoc (spelled r.groups) r.end after);
+        whole = cc (r.whole, append_assoc (spelled r.groups) r.end after);
         is_latch = r.is_latch;
         count = rw again len;
         found = rw again (sym r.items_are);
@@ -321,24 +304,10 @@ groups_room (p ∷ ps) h =
 
 -- The end of a run has at most one value for each codeword.
 end_room : (end after last : List ℕ) → IsEdifactEnd end after last → length last ≤ length end
-end_room end after last (few_left w v le) = rw (w, v) (omega arith)
-end_room end after last (first word rest is lt w v le) = rw (w, v) (omega arith)
-end_room end after last (second high low value rest small six is lt w v le) = rw (w, v) (omega arith)
-end_room end after last (third one two rest g v) = rw (g.words_are, v) (omega arith)
-end_room end after last (fourth one two three g v) = rw (g.words_are, v) (omega arith)
+end_room end after last h1 = grind (arith, nat_tests, few_left)
 
 -- A run has at most two items for each word.
 pub edifact_room : (words after : List ℕ) (items : List Item) → IsEdifactRun words after items
     → length items ≤ 2 * length words
 edifact_room words after items r =
-    omega (
-      arith,
-      ap length r.items_are,
-      byte_items-length (map edifact_byte (gathered r.groups ++ r.last)),
-      length-map (gathered r.groups ++ r.last) edifact_byte,
-      length-append (gathered r.groups) r.last,
-      groups_room r.groups r.each,
-      end_room r.end after r.last r.ended,
-      ap length r.whole,
-      length-append (spelled r.groups) r.end,
-    )
+    grind (arith, byte_items-length, edifact_byte, length-map, length-append, groups_room, end_room)

@@ -53,9 +53,7 @@ edifact_more old words words' g g' items v b lt none is s push = by_group g s pu
         each = each;
         words_are = is_words;
         small = small;
-        no_unlatch =
-            subst (λ (l : List ℕ). AllByRecursion (λ u. u ≢ 31) l) (sym e)
-            (all-append (λ u. u ≢ 31) before (v ∷ []) s.no_unlatch (none, tt));
+        no_unlatch = rw (sym e) at (all-append (λ u. u ≢ 31) before (v ∷ []) s.no_unlatch (none, tt));
         items_are = ap (λ (l : List Item). l ++ Byte b ∷ []) s.items_are
             ∙ ap (λ (c : ℕ). byte_items (map edifact_byte before) ++ Byte c ∷ []) (sym is)
             ∙ sym (byte_items-append (map edifact_byte before) (edifact_byte v ∷ []))
@@ -100,8 +98,7 @@ edifact_item old words words' g g' m from i d b byte le lt is low high is_byte s
     let value : b % 64 ≡ byte % 64 = ap (λ (n : ℕ). n % 64) same in
     let not_unlatch : b % 64 ≢ 31 = λ e. v.1 (sym value ∙ e) in
     let next : IsEdifactSoFar old words' g' (take (i - from) (drop from m) ++ Byte byte ∷ []) =
-    edifact_more old words words' g g' (take (i - from) (drop from m)) (b % 64) byte (omega arith) not_unlatch
-    (ap edifact_byte value ∙ v.2) s push in
+    edifact_more _ _ words' g g' _ (b % 64) byte (omega arith) not_unlatch (ap edifact_byte value ∙ v.2) s push in
     let more : take (i - from) (drop from m) ++ Byte byte ∷ [] ≡ take (i + 1 - from) (drop from m) =
     ap (λ (x : Item). take (i - from) (drop from m) ++ x ∷ []) (sym is) ∙ one_more m from i d le lt in
     subst (λ (l : List Item). IsEdifactSoFar old words' g' l) more next
@@ -155,5 +152,4 @@ edifact_written extent total old words new items g wide fits stopped some s ende
       by_group (Two x y) stopped s ended = absurd (elim stopped [ inl e ↦ omega (arith, e) | inr e ↦ omega (arith, e) ])
       by_group (Three x y z) stopped s ended =
           let p = ended.1 in
-          edifact_part total old words new items (Three x y z) s p.1.0 some p.1.2
-          (λ after fills. fourth x y z p.1.1 refl)
+          edifact_part total _ _ _ _ _ s p.1.0 some p.1.2 (λ after fills. fourth x y z p.1.1 refl)

@@ -1,8 +1,8 @@
 -- The head that is found first is the one of the definition, and what is written for a head says it.
-use Rattle.dm_words.proofs.Names.{◌≡◌, ℕ, ◌+◌, ◌-◌, ◌*◌, ◌/◌, ◌%◌, ◌≤◌, List, [], ◌∷◌, ◌++◌, length, refl, sym, ap}
-use Rattle.dm_words.proofs.Names.{subst, ◌∙◌, arith, Bool, true, false, cond, Option, Some, None, slice_get, ◌==◌}
-use Rattle.dm_words.proofs.Names.{nat_tests, Head, IsHead, SpellsHead, programming, appended, BeginsNoHead, head_words}
-use Rattle.dm_words.proofs.Names.{append_by, first_head, head_length}
+use Rattle.dm_words.proofs.Names.{◌≡◌, ℕ, ◌+◌, ◌-◌, ◌*◌, ◌≤◌, List, [], ◌∷◌, ◌++◌, length, refl, ap, subst, ◌∙◌, arith}
+use Rattle.dm_words.proofs.Names.{Bool, true, false, cond, Option, Some, None, slice_get, ◌==◌, nat_tests, Head, IsHead}
+use Rattle.dm_words.proofs.Names.{SpellsHead, programming, appended, BeginsNoHead, head_words, append_by, first_head}
+use Rattle.dm_words.proofs.Names.{head_length}
 use Rattle.dm_words.specs.declared.contents.head.Appended.{Appended}
 use Rattle.dm_words.specs.declared.contents.head.Head.TheVariants as head
 use Rattle.dm_words.specs.Heads.{IsAppended}
@@ -27,19 +27,11 @@ appended_test s e =
 -- A symbol of a sequence meets the test.
 pub appended_meets : (symbol : Appended) → IsAppended symbol → is_appended symbol ≡ true
 appended_meets s a =
-    let c = a.counted in let w = a.within in let m = a.some in let n = a.most in
-    let p = a.high_some in let q = a.high_most in let r = a.low_some in let t = a.low_most in
     grind (arith, nat_tests)
 
 -- A head that is there is found.
 pub head_complete : (words more : List ℕ) (said : Head) → SpellsHead words said → first_head (words ++ more) ≡ Some said
-head_complete words more said (programming e is) = rw (e, is) refl
-head_complete words more said (appended q s right i n e is) =
-    let index : q / 16 + 1 ≡ s.index = sym i in
-    let count : 17 - q % 16 ≡ s.count = omega (arith, n) in
-    let same : appended_symbol q s.file_high s.file_low ≡ s = rw (index, count) refl in
-    let by : Appended → Option Head = λ t. cond (is_appended t) (Some (head.Appended t)) None in
-    rw (e, is) (ap by same ∙ ap (λ (t : Bool). cond t (Some (head.Appended s)) None) (appended_meets s right))
+head_complete words more said h1 = grind (arith, nat_tests, appended_symbol, is_appended, appended_meets)
 
 -- The words begin with the head that was found.
 pub record Found (words : List ℕ) (said : Head) : Type 0 where
@@ -109,7 +101,6 @@ none_found words (Some said) e none =
 pub head_says : (said : Head) → IsHead (Some said) → SpellsHead (head_words (Some said)) said
 head_says head.Programming right = programming refl refl
 head_says (head.Appended s) right =
-    let c = right.counted in let w = right.within in let m = right.some in let n = right.most in
     appended (16 * (s.index - 1) + (17 - s.count)) s right (omega arith) (omega arith) refl refl
 
 -- What says a head is right, and nothing but these codewords says it.

@@ -1,12 +1,11 @@
 -- What parts spell are bytes of 0 to 255.
-use Rattle.dm_words.proofs.Names.{◌≡◌, ℕ, ◌+◌, ◌<◌, List, [], ◌∷◌, ◌++◌, length, map, sym, subst, arith, Some, Bool}
-use Rattle.dm_words.proofs.Names.{true, false, cond, ltb, AllByRecursion, nat_tests, All-from_recursion, Extent, Item}
-use Rattle.dm_words.proofs.Names.{CodeSet, C40, Text, X12, Shift, Three, basic_of, shifted_of, Piece, spelled, gathered}
-use Rattle.dm_words.proofs.Names.{whats, AreJoined, IsItem, IsMessage, byte_items, IsAsciiUnit, character, digits, fnc1}
-use Rattle.dm_words.proofs.Names.{raised, IsCharacter, by_shift, IsSpelling, codeword_of, AreBytes, IsGroup}
-use Rattle.dm_words.proofs.Names.{edifact_byte, IsEdifactEnd, few_left, first, second, third, fourth, macro_header}
-use Rattle.dm_words.proofs.Names.{macro_trailer, macro_text, IsPart, run, segment, edifact, AreParts}
-use Rattle.dm_words.specs.declared.c40.set.Shift.TheVariants.{One, Two}
+use Rattle.dm_words.proofs.Names.{◌≡◌, ℕ, ◌+◌, ◌<◌, List, [], ◌∷◌, ◌++◌, length, map, sym, subst, arith, Some}
+use Rattle.dm_words.proofs.Names.{AllByRecursion, nat_tests, All-from_recursion, Extent, Item, CodeSet, C40, Text, X12}
+use Rattle.dm_words.proofs.Names.{Shift, basic_of, shifted_of, Piece, spelled, gathered, whats, AreJoined, IsItem}
+use Rattle.dm_words.proofs.Names.{IsMessage, byte_items, IsAsciiUnit, character, digits, fnc1, raised, IsCharacter}
+use Rattle.dm_words.proofs.Names.{by_shift, IsSpelling, codeword_of, AreBytes, IsGroup, edifact_byte, IsEdifactEnd}
+use Rattle.dm_words.proofs.Names.{few_left, first, second, third, fourth, macro_header, macro_trailer, macro_text}
+use Rattle.dm_words.proofs.Names.{IsPart, run, segment, edifact, AreParts}
 use Rattle.dm_words.specs.declared.c40.set.Basic.TheVariants as basic
 use Rattle.dm_words.specs.declared.c40.set.Shifted.TheVariants as shifted
 use Rattle.dm_words.specs.Values.{plain}
@@ -23,13 +22,7 @@ basic_byte X12 v b e = grind (arith, nat_tests)
 
 -- A byte after a shift is below 128.
 shifted_byte : (set : CodeSet) (shift : Shift) (v b : ℕ) → shifted_of set shift v ≡ Some (shifted.Character b) → b < 128
-shifted_byte X12 shift v b e = absurd cc
-shifted_byte C40 One v b e = grind (arith, nat_tests)
-shifted_byte C40 Two v b e = grind (arith, nat_tests)
-shifted_byte C40 Three v b e = grind (arith, nat_tests)
-shifted_byte Text One v b e = grind (arith, nat_tests)
-shifted_byte Text Two v b e = grind (arith, nat_tests)
-shifted_byte Text Three v b e = grind (arith, nat_tests)
+shifted_byte set shift v b h1 = grind (arith, nat_tests)
 
 -- A character of a run is below 128.
 pub character_byte : (set : CodeSet) (vs : List ℕ) (b : ℕ) → IsCharacter set vs b → b < 128
@@ -91,10 +84,7 @@ end_small end after last (fourth one two three g v) = let s = group_small end _ 
 
 -- The byte of a value below 64 is below 128.
 edifact_byte_small : (v : ℕ) → v < 64 → edifact_byte v < 256
-edifact_byte_small v lt = by_test (ltb v 31) where
-  by_test : (t : Bool) → cond t (v + 64) v < 256
-  by_test true = omega (arith, lt)
-  by_test false = omega (arith, lt)
+edifact_byte_small v h1 = grind (arith, nat_tests)
 
 -- The bytes of values below 64 are items.
 edifact_values_items : (vs : List ℕ) → AreSixBits vs → AreItems (byte_items (map edifact_byte vs))
@@ -109,10 +99,8 @@ part_items extent place words after items (run set r) =
     rw r.values.items_are (spellings_items set r.values.spellings r.values.each)
 part_items extent place words after items (segment s) = rw s.items_are (bytes_items s.bytes s.in_range)
 part_items extent place words after items (edifact is r) =
-    rw r.items_are
-    (edifact_values_items (gathered r.groups
-    ++ r.last)
-    (small-append (gathered r.groups) r.last (groups_small r.groups r.each) (end_small r.end after r.last r.ended)))
+    rw r.items_are (edifact_values_items (gathered r.groups ++ r.last)
+    (small-append (gathered r.groups) r.last (groups_small r.groups r.each) (end_small _ _ _ r.ended)))
 
 -- Items, joined, are items.
 pub items-append : (a b : List Item) → AreItems a → AreItems b → AreItems (a ++ b)

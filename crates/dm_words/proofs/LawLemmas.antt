@@ -30,8 +30,7 @@ pub macro_written_out : (digit count : ℕ) (words : List ℕ) (text : List Item
     → length (ascii (macro_text digit text)) ≤ count
     → Spells Wide (padded (ascii (macro_text digit text)) count) (macro_text digit text)
 macro_written_out digit count words text m le =
-    ascii_spells Wide (macro_text digit text) count
-    (macro_text_is_message Wide 2 m.word digit m.more text m.is_macro m.spelled) le
+    ascii_spells Wide (macro_text digit text) count (macro_text_is_message _ 2 m.word digit _ _ m.is_macro m.spelled) le
 
 -- The ASCII form with pads up to a count has that many codewords.
 pub ascii_count : (m : List Item) (count : ℕ) → length (ascii m) ≤ count → length (padded (ascii m) count) ≡ count

@@ -1,7 +1,7 @@
 -- Which lane is the least, and which lanes are no greater than others.
-use Rattle.dm_words.proofs.Names.{◌≡◌, ℕ, zero, suc, ◌+◌, ◌%◌, ◌^◌, ◌<◌, ◌≤◌, List, [], ◌∷◌, length, get_or, map, refl}
-use Rattle.dm_words.proofs.Names.{sym, ap, subst, ◌∙◌, arith, Bool, true, false, not, cond, eqb, leb, ltb, w16, inl}
-use Rattle.dm_words.proofs.Names.{inr, replicate, nat_le, ◌==◌, min, zip2, top, sel_l, cases_lt, eqb-true, nat_tests}
+use Rattle.dm_words.proofs.Names.{◌≡◌, ℕ, zero, suc, ◌+◌, ◌%◌, ◌^◌, ◌<◌, List, [], ◌∷◌, length, get_or, map, refl, sym}
+use Rattle.dm_words.proofs.Names.{ap, subst, ◌∙◌, arith, Bool, true, false, not, cond, eqb, leb, ltb, w16, inl, inr}
+use Rattle.dm_words.proofs.Names.{replicate, nat_le, ◌==◌, min, zip2, top, sel_l, cases_lt, eqb-true, nat_tests}
 use Rattle.dm_words.proofs.Names.{tops_compared, has_bit, least_of}
 use Rattle.std.specs.List.{prefix_len}
 use lib.Count.{count_trailing_zeros}
@@ -49,16 +49,7 @@ least_in (a ∷ b ∷ c ∷ d ∷ e ∷ f ∷ g ∷ h ∷ i ∷ more) long = abs
 
 -- It isn't greater than the second.
 pub least_small : (xs : List ℕ) (most : ℕ) → length xs ≡ 8 → get_or xs 1 0 < most → least_of xs < most
-least_small (a ∷ b ∷ c ∷ d ∷ e ∷ f ∷ g ∷ h ∷ []) most long small = omega (arith, small)
-least_small [] most long small = absurd (omega (arith, long))
-least_small (a ∷ []) most long small = absurd (omega (arith, long))
-least_small (a ∷ b ∷ []) most long small = absurd (omega (arith, long))
-least_small (a ∷ b ∷ c ∷ []) most long small = absurd (omega (arith, long))
-least_small (a ∷ b ∷ c ∷ d ∷ []) most long small = absurd (omega (arith, long))
-least_small (a ∷ b ∷ c ∷ d ∷ e ∷ []) most long small = absurd (omega (arith, long))
-least_small (a ∷ b ∷ c ∷ d ∷ e ∷ f ∷ []) most long small = absurd (omega (arith, long))
-least_small (a ∷ b ∷ c ∷ d ∷ e ∷ f ∷ g ∷ []) most long small = absurd (omega (arith, long))
-least_small (a ∷ b ∷ c ∷ d ∷ e ∷ f ∷ g ∷ h ∷ i ∷ more) most long small = absurd (omega (arith, long))
+least_small xs most h1 h2 = grind (arith, nat_tests)
 
 -- A number stands first behind all others, or, where the first one isn't it, so far behind that.
 abbrev StandsFirst : ℕ → List ℕ → ℕ → Bool → Type 0
@@ -87,11 +78,7 @@ first_stands (x ∷ xs) m (suc k) there is =
 
 -- Before that it doesn't stand.
 first_before : (xs : List ℕ) (m k : ℕ) → k < prefix_len (λ x. not (eqb x m)) xs → get_or xs k 0 ≡ m → ⊥
-first_before xs m k there is =
-    let same : eqb (get_or xs k 0) m ≡ true = (let e : get_or xs k 0 ≡ m = is in grind (arith, nat_tests)) in
-    let passed : not (eqb (get_or xs k 0) m) ≡ true = prefix_len_passes (λ x. not (eqb x m)) xs k 0 there in
-    let stopped : not (eqb (get_or xs k 0) m) ≡ false = ap not same in
-    cc
+first_before xs m k h1 h2 = grind (arith, nat_tests, prefix_len_passes)
 
 -- The lowest bit of a comparison of eight numbers with the least is the first place where it stands.
 pub least_place : (xs : List ℕ) (m : ℕ) → length xs ≡ 8 → m ≡ least_of xs
@@ -101,7 +88,6 @@ pub least_place : (xs : List ℕ) (m : ℕ) → length xs ≡ 8 → m ≡ least_
 least_place xs m long is =
     let s = least_in xs long in
     let f = first_stands xs m s.0 s.1 (s.2 ∙ sym is) in
-    let p : ℕ → Bool = λ x. eqb x m in
     let mask = mask_l (map (λ x. eqb x m) xs) in
     let masked : mask_l (map (top 15) (zip2 (λ a b. cond (eqb a b) 65535 0) xs (replicate 8 m))) % 18446744073709551616
     ≡ mask = bitmask_splat w16 eqb xs 8 m long (omega arith) in
@@ -135,12 +121,7 @@ compared_is xs ys long other =
 pub compared_fits : (xs ys : List ℕ) → length xs ≡ 8 → length ys ≡ 8
     → mask_l (map (top 15) (zip2 (λ a b. cond (leb a b) 65535 0) xs ys)) % 18446744073709551616 < 256
 unfolding compared
-compared_fits xs ys long other =
-    let P : ℕ → Type 0 = λ n. n < 256 in
-    let few : mask_l (zip2 leb xs ys) < 2 ^ 8 =
-    subst (λ (n : ℕ). mask_l (zip2 leb xs ys) < 2 ^ n) (length-zip2 leb xs ys (long ∙ sym other) ∙ long)
-    (mask_l-lt (zip2 leb xs ys)) in
-    subst P (sym (compared_is xs ys long other)) few
+compared_fits xs ys long other = grind (arith, mask_l, length-zip2, mask_l-lt, compared_is)
 
 -- Each bit tells of its lane.
 pub compared_bit : (xs ys : List ℕ) → length xs ≡ 8 → length ys ≡ 8 → (k : ℕ) → k < 8
@@ -156,10 +137,7 @@ compared_bit xs ys long other k there =
 -- ---- the lesser
 
 lesser_is : (a b : ℕ) → cond (top 15 (cond (ltb a b) 65535 0)) a b ≡ min a b
-lesser_is a b = by_test (ltb a b) refl where
-  by_test : (t : Bool) → ltb a b ≡ t → cond (top 15 (cond t 65535 0)) a b ≡ min a b
-  by_test true e = let lt : a < b = grind (arith, nat_tests) in omega (arith, lt)
-  by_test false e = let le : b ≤ a = grind (arith, nat_tests) in omega (arith, le)
+lesser_is a b = grind (arith, nat_tests)
 
 -- The lesser number of each lane is selected.
 pub lesser_each : (xs ys : List ℕ)

@@ -1,7 +1,7 @@
 -- No list of codewords that spells a message is shorter than its cost, whatever the costs are, if they obey the rules
 -- of `AreCosts`.
 use Rattle.dm_words.proofs.Names.{◌≡◌, ◌≢◌, inl, inr, ℕ, zero, suc, ◌+◌, ◌-◌, ◌*◌, ◌/◌, ◌%◌, ◌<◌, ◌≤◌, List, [], ◌∷◌}
-use Rattle.dm_words.proofs.Names.{◌++◌, length, append_assoc, refl, ap, subst, arith, Bool, true, false, cond, ltb}
+use Rattle.dm_words.proofs.Names.{◌++◌, length, append_assoc, refl, ap, arith, Bool, true, false, cond, ltb}
 use Rattle.dm_words.proofs.Names.{AllByRecursion, nat_le, cases_lt, nat_tests, length-append, Extent, Wide, Item, Byte}
 use Rattle.dm_words.proofs.Names.{Fnc1, CodeSet, Piece, spelled, gathered, whats, AreJoined, IsAsciiUnit, character}
 use Rattle.dm_words.proofs.Names.{digits, fnc1, raised, IsSpelling, IsFiller, nothing, lone_shift, IsDropped, filler}
@@ -68,8 +68,7 @@ module _ (least : List Item → ℕ) (owed : CodeSet → ℕ → List Item → �
       let rest = telescope set ps (r + k) m h.1 in
       let e : (r + k) + length (spelled ps) ≡ r + length (p.words ++ spelled ps) =
       omega (arith, n, length-append p.words (spelled ps)) in
-      let there : owed set (r + k) (whats ps ++ m) ≤ owed set (r + length (p.words ++ spelled ps)) m =
-      subst (λ (j : ℕ). owed set (r + k) (whats ps ++ m) ≤ owed set j m) e rest in
+      let there : owed set (r + k) (whats ps ++ m) ≤ owed set (r + length (p.words ++ spelled ps)) m = rw e at rest in
       omega (arith, one, there)
 
   -- A run whose values fill whole pairs.
@@ -78,8 +77,7 @@ module _ (least : List Item → ℕ) (owed : CodeSet → ℕ → List Item → �
       → least (whats ps ++ m) ≤ 1 + 2 * q + leave 1 (least m)
   whole_run set ps q m h e =
       let t : owed set 0 (whats ps ++ m) ≤ owed set (3 * q) m =
-      subst (λ (j : ℕ). owed set 0 (whats ps ++ m) ≤ owed set j m) (let z : 0 + length (spelled ps)
-      ≡ 3 * q = omega (arith, e) in z) (telescope set ps 0 m h) in
+      rw (let z : 0 + length (spelled ps) ≡ 3 * q = omega (arith, e) in z) at (telescope set ps 0 m h) in
       omega (arith, costs.begins set (whats ps ++ m), t, costs.ends set q m)
 
   -- The front of a run goes into ASCII: the claim, where `fill` values of a filler stand behind the spellings.
@@ -239,8 +237,7 @@ module _ (least : List Item → ℕ) (owed : CodeSet → ℕ → List Item → �
         omega (
           arith,
           ap length (append_assoc p.words (spelled ps) after),
-          length-append p.words (spelled ps
-              ++ after),
+          length-append p.words (spelled ps ++ after),
         )
 
     -- No parts are shorter than the cost of their items.

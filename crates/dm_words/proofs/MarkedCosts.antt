@@ -1,12 +1,11 @@
 -- What items with marks cost, from mark to mark.
-use Rattle.dm_words.proofs.Names.{◌≡◌, ℕ, zero, suc, ◌+◌, ◌-◌, ◌*◌, ◌/◌, ◌%◌, ◌<◌, ◌≤◌, List, [], ◌∷◌, ◌++◌, length}
-use Rattle.dm_words.proofs.Names.{take, drop, get_or, refl, sym, ap, subst, ◌∙◌, arith, Bool, true, false, cond, ltb}
-use Rattle.dm_words.proofs.Names.{inl, inr, length-append, set, cases_lt, get_or-set_same, get_or-set_other}
-use Rattle.dm_words.proofs.Names.{macro_header, macro_trailer, macro_text, most_behind, at_drop_more, drop-drop}
-use Rattle.dm_words.proofs.Names.{take-append-drop, take_rest, length-take, length-drop, All-append, take-suc, Item}
-use Rattle.dm_words.proofs.Names.{Mark, Wide, eci_word, designator, most_assigned, AreMarks, mark_words, IsItem}
-use Rattle.dm_words.proofs.Names.{IsMessage, at_end, before_words, parts_cost, marked_cost, behind_first, first_text}
-use Rattle.dm_words.proofs.Names.{first_end}
+use Rattle.dm_words.proofs.Names.{All, All-take, All-drop, ◌≡◌, ℕ, zero, suc, ◌+◌, ◌-◌, ◌*◌, ◌<◌, ◌≤◌, List, [], ◌∷◌}
+use Rattle.dm_words.proofs.Names.{◌++◌, length, take, drop, get_or, refl, sym, ap, subst, ◌∙◌, arith, inl, inr}
+use Rattle.dm_words.proofs.Names.{length-append, set, cases_lt, get_or-set_same, get_or-set_other, macro_header}
+use Rattle.dm_words.proofs.Names.{macro_trailer, macro_text, most_behind, at_drop_more, drop-drop, take-append-drop}
+use Rattle.dm_words.proofs.Names.{take_rest, length-take, length-drop, All-append, take-suc, Item, Mark, Wide, eci_word}
+use Rattle.dm_words.proofs.Names.{designator, most_assigned, AreMarks, mark_words, IsItem, IsMessage, at_end}
+use Rattle.dm_words.proofs.Names.{before_words, parts_cost, marked_cost, behind_first, first_text, first_end}
 use Rattle.std.proofs.Math.Seq.{take-length}
 use Rattle.dm_words.proofs.ContentForms.{marks_within}
 use Rattle.dm_words.proofs.Marks.{lower}
@@ -14,14 +13,7 @@ use Rattle.dm_words.proofs.Plans.{cost_most}
 
 -- A designator has at most three codewords.
 pub designator_few : (number : ℕ) → length (designator number) ≤ 3
-designator_few n = by_test (ltb n 127) (ltb n 16383) where
-  by_test : (one two : Bool)
-      → length (cond one ((n + 1) ∷ [])
-      (cond two ((128 + (n - 127) / 254) ∷ (1 + (n - 127) % 254) ∷ [])
-      ((192 + (n - 16383) / 64516) ∷ (1 + (n - 16383) / 254 % 254) ∷ (1 + (n - 16383) % 254) ∷ []))) ≤ 3
-  by_test true two = omega arith
-  by_test false true = omega arith
-  by_test false false = omega arith
+designator_few number = grind arith
 
 -- Items with marks cost at most two codewords for each item and four for each mark.
 pub marked_most : (seen : ℕ) (items : List Item) (marks : List Mark)
@@ -66,19 +58,13 @@ marks_drop least most (suc k) (m ∷ marks) are =
 behind_shift : (seen place : ℕ) (items : List Item) (marks : List Mark) → seen ≤ place → StartAt place marks
     → behind_first place (drop (place - seen) items) marks ≡ behind_first seen items marks
 behind_shift seen place items [] le starts = refl
-behind_shift seen place items (m ∷ marks) le starts =
-    let sum : (place - seen) + (m.place - place) ≡ m.place - seen = omega (arith, le, starts) in
-    ap (λ (l : List Item). length (mark_words m) + marked_cost m.place l marks)
-    (drop-drop (m.place - place) (place - seen) items ∙ ap (λ (k : ℕ). drop k items) sum)
+behind_shift seen place items (m ∷ marks) le starts = grind (arith, mark_words, marked_cost, drop-drop)
 
 -- The items before the first mark, from a further place on.
 text_shift : (seen place : ℕ) (items : List Item) (marks : List Mark) → seen ≤ place → StartAt place marks
     → first_text place (drop (place - seen) items) marks
     ≡ take (first_end seen items marks - (place - seen)) (drop (place - seen) items)
-text_shift seen place items [] le starts = sym (take_rest items (place - seen))
-text_shift seen place items (m ∷ marks) le starts =
-    let same : m.place - place ≡ (m.place - seen) - (place - seen) = omega (arith, le, starts) in
-    ap (λ (k : ℕ). take k (drop (place - seen) items)) same
+text_shift seen place items marks h1 h2 = grind (arith, take_rest)
 
 -- So the cost from a further place on is this.
 cost_from : (seen place : ℕ) (items : List Item) (marks : List Mark) → seen ≤ place → StartAt place marks
@@ -141,8 +127,7 @@ back seen items marks k end d some within are is =
     let rest = drop k marks in
     let next : (k - 1) + 1 ≡ k = omega (arith, some) in
     let here : drop (k - 1) marks ≡ m ∷ rest =
-    at_drop_more (λ (r : List Mark). r) marks (k - 1) d (omega (arith, some, within))
-    ∙ ap (λ (i : ℕ). m ∷ drop i marks) next in
+    cc (at_drop_more (λ (r : List Mark). r) marks (k - 1) d (omega (arith, some, within))) in
     let a : AreMarks seen (seen + length items) (m ∷ rest) =
     subst (AreMarks seen (seen + length items)) here (marks_drop seen (seen + length items) (k - 1) marks are) in
     record {
@@ -150,12 +135,7 @@ back seen items marks k end d some within are is =
       within = rw is (end_from seen m.place items rest a.2);
       assigned = a.1;
       end_is = ap (first_end seen items) (sym here);
-      cost = ap (behind_first seen items) here
-          ∙ ap (λ (n : ℕ). length (mark_words m) + n)
-          (cost_from seen m.place items rest a.0 (start_at m.place (seen + length items) rest a.2))
-          ∙ ap (λ (n : ℕ). length (mark_words m)
-          + parts_cost (before_words (behind_first seen items rest))
-          (take (n - (m.place - seen)) (drop (m.place - seen) items))) (sym is);
+      cost = cc (cost_from seen m.place items rest a.0 (start_at m.place (seen + length items) rest a.2));
     }
 
 -- ---- from the first mark to the last
@@ -200,8 +180,7 @@ forth seen items marks k from d lt are =
           (take (first_end seen items (drop k marks) - i) (drop i items))) index
           ∙ ap (λ (ms : List Mark). parts_cost (before_words (behind_first seen items (drop k marks)))
           (take (first_end seen items ms - from) (drop from items))) here;
-      behind_is = ap (behind_first seen items) here
-          ∙ ap (λ (p : ℕ). length (mark_words m) + marked_cost p (drop (m.place - seen) items) rest) there;
+      behind_is = cc;
       mark = ap (λ (i : ℕ). take i marks) (sym one) ∙ take-suc marks k d lt
           ∙ ap (λ (p : ℕ). take k marks ++ (let n : Mark = record { place = p; number = m.number } in n) ∷ []) there;
     }
@@ -242,10 +221,7 @@ pub cost_turn : (seen : ℕ) (items : List Item) (marks : List Mark) (k place nu
     → IsBack seen items marks k place number end → cost ≡ behind_first seen items (drop k marks)
     → text ≡ parts_cost (before_words cost) (take (end - (place - seen)) (drop (place - seen) items))
     → count ≡ length (eci_word ∷ designator number) → count + text ≡ behind_first seen items (drop (k - 1) marks)
-cost_turn seen items marks k place number end cost text count b is is_text is_count =
-    let t = is_text
-    ∙ ap (λ (n : ℕ). parts_cost (before_words n) (take (end - (place - seen)) (drop (place - seen) items))) is in
-    omega (arith, b.cost, t, is_count)
+cost_turn seen items marks k place number end cost text count b is is_text is_count = cc
 
 -- It keeps what follows the items before the mark.
 pub behind_turn : (seen : ℕ) (items : List Item) (marks : List Mark) (k cost : ℕ) (behind : List ℕ) → 0 < k
@@ -268,21 +244,20 @@ pub behind_few : (seen : ℕ) (items : List Item) (marks : List Mark) (k from pl
     → IsForth seen items marks k from place number behind → length items ≤ 3123 → length marks ≤ 779 → k < length marks
     → behind ≤ most_behind
 behind_few seen items marks k from place number behind f few few_marks lt =
-    omega (
-      arith,
-      designator_few number,
-      marked_most (seen + (place - seen)) (drop (place - seen) items) (drop (k + 1) marks),
-      length-drop (place - seen) items,
-      length-drop (k + 1) marks,
-    )
+    grind (arith, designator_few, marked_most, length-drop)
+
+-- What stands between a macro's header and its trailer is an item of the macro, and has no more items.
+pub inner_few : (items inner : List Item) → inner ≡ take (length items - 2 - 7) (drop 7 items)
+    → length inner ≤ length items
+inner_few items inner is =
+    omega (arith, ap length is, length-take (length items - 2 - 7) (drop 7 items), length-drop 7 items)
+
+pub inner_items : (items inner : List Item) → inner ≡ take (length items - 2 - 7) (drop 7 items)
+    → All IsItem items → All IsItem inner
+inner_items items inner is fit =
+    rw is (All-take IsItem (length items - 2 - 7) (drop 7 items) (All-drop IsItem 7 items fit))
 
 -- The text of a macro has nine items fewer than its header, itself and its trailer.
 pub framed_length : (items text : List Item) (digit : ℕ) → items ≡ macro_text digit text
     → length items ≡ 9 + length text
-framed_length items text digit e =
-    omega (
-      arith,
-      ap length e,
-      length-append (macro_header digit) (text ++ macro_trailer),
-      length-append text macro_trailer,
-    )
+framed_length items text digit e = grind (arith, length-append, macro_header, macro_trailer)

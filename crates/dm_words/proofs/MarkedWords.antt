@@ -1,9 +1,9 @@
 -- The loops that count and write items with marks.
-use Rattle.dm_words.proofs.Names.{◌≡◌, ℕ, ◌+◌, ◌-◌, ◌*◌, ◌<◌, ◌≤◌, List, ◌∷◌, ◌++◌, length, take, drop, get_or, refl}
-use Rattle.dm_words.proofs.Names.{sym, ap, subst, ◌∙◌, append_assoc, arith, length-append, append-nil, at_drop_more}
-use Rattle.dm_words.proofs.Names.{at_drop_all, drop-drop, take_rest, length-take, length-drop, Item, Unit, Mark, ascii}
-use Rattle.dm_words.proofs.Names.{most_assigned, eci_word, designator, AreMarks, mark_words, ascii_with_marks}
-use Rattle.dm_words.proofs.Names.{unit_words, unit_items}
+use Rattle.dm_words.proofs.Names.{◌≡◌, ℕ, ◌+◌, ◌-◌, ◌*◌, ◌<◌, ◌≤◌, List, ◌∷◌, ◌++◌, length, take, drop, get_or, sym, ap}
+use Rattle.dm_words.proofs.Names.{subst, ◌∙◌, append_assoc, arith, length-append, append-nil, at_drop_more, at_drop_all}
+use Rattle.dm_words.proofs.Names.{drop-drop, take_rest, length-take, length-drop, Item, Unit, Mark, ascii}
+use Rattle.dm_words.proofs.Names.{most_assigned, eci_word, designator, AreMarks, ascii_with_marks, unit_words}
+use Rattle.dm_words.proofs.Names.{unit_items}
 use Rattle.dm_words.proofs.ContentForms.{marks_within}
 use Rattle.dm_words.proofs.NormalForms.{two_words}
 use Rattle.dm_words.proofs.UnitLoops.{HasUnit}
@@ -29,16 +29,13 @@ turn items marks before i d lt are =
     let a : AreMarks before (length items) (m ∷ drop (i + 1) marks) = subst (AreMarks before (length items)) here are in
     let n = m.place - before in
     let sum : before + n ≡ m.place = omega (arith, a.0) in
-    let rest : drop n (drop before items) ≡ drop m.place items = drop-drop n before items
-    ∙ ap (λ (k : ℕ). drop k items) sum in
+    let rest : drop n (drop before items) ≡ drop m.place items = cc (drop-drop n before items) in
     record {
       from = a.0;
       within = marks_within m.place (length items) (drop (i + 1) marks) a.2;
       assigned = a.1;
       in_order = a.2;
-      words = ap (ascii_with_marks before (drop before items)) here
-          ∙ ap (λ (r : List Item). ascii (take n (drop before items))
-          ++ (mark_words m ++ ascii_with_marks m.place r (drop (i + 1) marks))) rest;
+      words = cc;
     }
 
 -- Behind the last mark, the other items are written in ASCII.
@@ -60,10 +57,7 @@ pub count_turn : (items : List Item) (marks : List Mark) (before i place number 
     → total ≡ sum + length (ascii_with_marks before (drop before items) (drop i marks))
     → total ≡ (sum + (a + m)) + length (ascii_with_marks place (drop place items) (drop (i + 1) marks))
 count_turn items marks before i place number total sum a m t first second so_far =
-    let piece = ascii (take (place - before) (drop before items)) in
-    let rest = ascii_with_marks place (drop place items) (drop (i + 1) marks) in
-    let mark = eci_word ∷ designator number in
-    omega (arith, so_far, first, second, ap length t.words, length-append piece (mark ++ rest), length-append mark rest)
+    grind (arith, ascii_with_marks, eci_word, length-append)
 
 -- There is room for the items up to the next mark, and for the mark.
 pub fits_turn : (items : List Item) (marks : List Mark) (before i place number : ℕ) (base all words : List ℕ)
@@ -118,9 +112,8 @@ pub last_fits : (items : List Item) (marks : List Mark) (before i most : ℕ) (b
     → length words + length (ascii (take (length items - before) (drop before items))) ≤ most
 last_fits items marks before i most base all words le so_far room =
     let left = ascii_with_marks before (drop before items) (drop i marks) in
-    let whole : length (ascii (take (length items - before) (drop before items)))
-    ≡ length left = ap (λ (r : List Item). length (ascii r)) (take_rest items before)
-    ∙ sym (ap length (last items marks before i le)) in
+    let whole : length (ascii (take (length items - before) (drop before items))) ≡ length left =
+    cc (take_rest items before, last items marks before i le) in
     omega (arith, ap length so_far, length-append base all, length-append words left, room, whole)
 
 -- The codewords are added up to the next mark and with it.
@@ -131,12 +124,7 @@ pub add_turn : (items : List Item) (marks : List Mark) (before i place number : 
     → newer ≡ new ++ (eci_word ∷ designator number) → total ≡ newer
     ++ ascii_with_marks place (drop place items) (drop (i + 1) marks)
 add_turn items marks before i place number total words new newer t so_far first second =
-    let piece = ascii (take (place - before) (drop before items)) in
-    let rest = ascii_with_marks place (drop place items) (drop (i + 1) marks) in
-    let mark = eci_word ∷ designator number in
-    so_far ∙ ap (λ (r : List ℕ). words ++ r) t.words ∙ sym (append_assoc words piece (mark ++ rest))
-    ∙ sym (append_assoc (words ++ piece) mark rest)
-    ∙ ap (λ (r : List ℕ). (r ++ mark) ++ rest) (sym first) ∙ ap (λ (r : List ℕ). r ++ rest) (sym second)
+    grind (arith, ascii_with_marks, eci_word, append_assoc)
 
 -- ---- items in ASCII behind other codewords
 
@@ -151,14 +139,7 @@ unit_added u items at total old new h so_far is =
 -- There is room for the unit.
 pub unit_fits : (u : Unit) (items : List Item) (at : ℕ) (total old : List ℕ) → HasUnit u items at → total ≡ old
     ++ ascii (drop at items) → length old + length (unit_words u) ≤ length total
-unit_fits u items at total old h so_far =
-    let all = unit_added u items at total old (old ++ unit_words u) h so_far refl in
-    omega (
-      arith,
-      ap length all,
-      length-append (old ++ unit_words u) (ascii (drop (at + unit_items u) items)),
-      length-append old (unit_words u),
-    )
+unit_fits u items at total old h so_far = grind (arith, unit_added, unit_words, length-append, unit_items)
 
 -- At the end all of it is written.
 pub units_end : (items : List Item) (at : ℕ) (total words : List ℕ) → length items ≤ at → total ≡ words

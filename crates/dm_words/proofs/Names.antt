@@ -45,7 +45,6 @@ pub use Rattle.dm_words.specs.declared.c40.set.Basic.{Basic}
 pub use Rattle.dm_words.specs.declared.c40.set.CodeSet.{CodeSet}
 pub use Rattle.dm_words.specs.declared.c40.set.CodeSet.TheVariants.{C40, Text, X12}
 pub use Rattle.dm_words.specs.declared.c40.set.Shift.{Shift}
-pub use Rattle.dm_words.specs.declared.c40.set.Shift.TheVariants.{Three}
 pub use Rattle.dm_words.specs.declared.c40.set.Shifted.{Shifted}
 pub use Rattle.dm_words.specs.declared.codeword.Codeword.{Codeword}
 pub use Rattle.dm_words.specs.declared.contents.designator.Designator.{Designator}

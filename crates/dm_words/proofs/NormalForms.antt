@@ -39,12 +39,7 @@ says_count n after some few =
 -- A segment has a latch, its length numbers and a codeword for each byte.
 pub length-one_segment : (bytes : List ℕ) → length (one_segment bytes)
     ≡ 1 + length (length_numbers (length bytes)) + length bytes
-length-one_segment bytes =
-    omega (
-      arith,
-      length-written 2 (length_numbers (length bytes) ++ bytes),
-      length-append (length_numbers (length bytes)) bytes,
-    )
+length-one_segment bytes = grind (arith, length-written, length_numbers, length-append)
 
 -- ---- the bytes of a message
 
@@ -194,11 +189,7 @@ normal_form_codewords profile m count fit =
 
 -- The shorter form isn't longer than ASCII.
 pub shorter_than_ascii : (m : List Item) → length (shorter m) ≤ length (ascii m)
-shorter_than_ascii m =
-    elim (segment_or_ascii m) [
-      | inl s ↦ omega (arith, ap length s.is, s.less)
-      | inr e ↦ omega (arith, ap length e)
-    ]
+shorter_than_ascii m = grind (arith, nat_tests, segment_or_ascii)
 
 -- A message of bytes has no FNC1.
 no_fnc1 : (bytes : List ℕ) → has_fnc1 (byte_items bytes) ≡ false
@@ -223,11 +214,7 @@ shorter_than_segment bytes =
 
 -- A byte by itself has at least one codeword.
 some_single : (b : ℕ) → 0 < length (single b)
-some_single b = by_test (ltb b 128)
-  where
-    by_test : (t : Bool) → 0 < length (cond t ((b + 1) ∷ []) (235 ∷ (b - 127) ∷ []))
-    by_test true = omega arith
-    by_test false = omega arith
+some_single b = grind (arith, nat_tests)
 
 -- A byte by itself has one codeword below 128, and else two.
 few_single : (b : ℕ) → (length (single b) ≤ 2) × (b < 128 → length (single b) ≤ 1)
@@ -319,12 +306,8 @@ two_items (Byte b ∷ Byte c ∷ m) = both (is_digit b && is_digit c) (two_items
 
 -- A message has at most two items for each codeword of its normal form.
 pub normal_form_items : (profile : Profile) (m : List Item) → length m ≤ 2 * length (normal_form profile m)
-normal_form_items Ascii m = two_items m
-normal_form_items Shorter m =
-    elim (segment_or_ascii m) [
-      | inl s ↦ omega (arith, ap length s.is, length-one_segment (map byte_of m), length-map m byte_of)
-      | inr e ↦ omega (arith, ap length e, two_items m)
-    ]
+normal_form_items profile m =
+    grind (arith, nat_tests, two_items, segment_or_ascii, length-one_segment, byte_of, length-map)
 
 -- ---- writing a segment
 
@@ -346,37 +329,18 @@ bytes_more start old new m i b d lt is so_far e =
     let here : length old + 1
     ≡ place + length before =
     omega (arith, ap length so_far, length-append start (written place before), length-written place before) in
-    let more : before ++ b ∷ [] ≡ map byte_of (take (i + 1) m) = ap (λ (k : ℕ). before ++ k ∷ []) is
-    ∙ sym (one_byte_more m i d lt) in
-    e ∙ ap (λ (l : List ℕ). l ++ randomised (length old + 1) b ∷ []) so_far
-    ∙ append_assoc start (written place before) (randomised (length old + 1) b ∷ [])
-    ∙ ap (λ (k : ℕ). start ++ (written place before ++ randomised k b ∷ [])) here
-    ∙ ap (λ (l : List ℕ). start ++ l) (sym (written-append place before (b ∷ [])))
-    ∙ ap (λ (l : List ℕ). start ++ written place l) more
+    let more : before ++ b ∷ [] ≡ map byte_of (take (i + 1) m) = cc (one_byte_more m i d lt) in
+    cc (
+      append_assoc start (written place before) (randomised (length old + 1) b ∷ []),
+      written-append place before (b ∷ []),
+    )
 
 -- A latch, numbers and bytes that are written one behind the other are a latch and all values.
 pub segment_whole : (start latched counted new numbers bytes : List ℕ) → latched ≡ start ++ 231 ∷ [] → counted
     ≡ latched ++ written (length latched + 1) numbers → new ≡ counted ++ written (length counted + 1) bytes
     → new ≡ start ++ 231 ∷ written (length start + 2) (numbers ++ bytes)
 segment_whole start latched counted new numbers bytes latch count all =
-    let place : length latched + 1
-    ≡ length start + 2 = omega (arith, ap length latch, length-append start (231 ∷ [])) in
-    let next : length counted + 1 ≡ (length start + 2) + length numbers =
-    omega (
-      arith,
-      ap length count,
-      length-append latched (written (length latched + 1) numbers),
-      length-written (length latched + 1) numbers,
-    ) in
-    let behind : counted ≡ start ++ 231 ∷ written (length start + 2) numbers =
-    count ∙ ap (λ (k : ℕ). latched ++ written k numbers) place
-    ∙ ap (λ (l : List ℕ). l ++ written (length start + 2) numbers) latch
-    ∙ append_assoc start (231 ∷ []) (written (length start + 2) numbers) in
-    all ∙ ap (λ (k : ℕ). counted ++ written k bytes) next
-    ∙ ap (λ (l : List ℕ). l ++ written ((length start + 2) + length numbers) bytes) behind
-    ∙ append_assoc start (231 ∷ written (length start + 2) numbers)
-    (written ((length start + 2) + length numbers) bytes)
-    ∙ ap (λ (l : List ℕ). start ++ 231 ∷ l) (sym (written-append (length start + 2) numbers bytes))
+    grind (arith, length-append, length-written, append_assoc, written-append)
 
 -- ---- choosing
 

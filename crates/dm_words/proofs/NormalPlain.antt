@@ -2,9 +2,9 @@
 use Rattle.dm_words.proofs.Names.{◌≡◌, ℕ, ◌+◌, ◌<◌, ◌≤◌, List, [], ◌∷◌, ◌++◌, length, map, refl, sym, ap, subst, ◌∙◌}
 use Rattle.dm_words.proofs.Names.{arith, Bool, true, false, cond, ltb, Option, Some, None, ◌↔◌, inl, inr, Result, Ok}
 use Rattle.dm_words.proofs.Names.{Err, ◌&&◌, not, OnOk, cases_lt, nat_tests, length-map, All-from_recursion}
-use Rattle.dm_words.proofs.Names.{recursion_from_All, Wide, TooLong, Item, Byte, Fnc1, Head, Mark, Profile, Ascii}
-use Rattle.dm_words.proofs.Names.{Shorter, ascii, written, IsHead, head_words, as_content, ascii_with_marks, form_by}
-use Rattle.dm_words.proofs.Names.{content_form, ContentView, AreMarks, IsContent, byte_of, IsItem, IsMessage, has_fnc1}
+use Rattle.dm_words.proofs.Names.{recursion_from_All, Wide, TooLong, Item, Head, Mark, Profile, Ascii, Shorter, ascii}
+use Rattle.dm_words.proofs.Names.{written, IsHead, head_words, as_content, ascii_with_marks, form_by, content_form}
+use Rattle.dm_words.proofs.Names.{ContentView, AreMarks, IsContent, byte_of, IsItem, IsMessage, has_fnc1}
 use Rattle.dm_words.proofs.Names.{length_numbers, one_segment, normal_form, shorter, padded, IsPlainForm, view_of}
 use Rattle.dm_words.proofs.Names.{is_plain, sign_words, ArePartsWritten}
 use Rattle.std.specs.Prelude.{IsErr}
@@ -17,13 +17,7 @@ use Rattle.dm_words.proofs.SegmentWritten.{field_written}
 
 -- Without FNC1 there is no sign.
 no_fnc1_sign : (m : List Item) → has_fnc1 m ≡ false → sign_words m ≡ []
-no_fnc1_sign [] none = refl
-no_fnc1_sign (Fnc1 ∷ m) none = absurd cc
-no_fnc1_sign (Byte b ∷ []) none = refl
-no_fnc1_sign (Byte b ∷ Fnc1 ∷ m) none = absurd cc
-no_fnc1_sign (Byte b ∷ Byte c ∷ []) none = refl
-no_fnc1_sign (Byte b ∷ Byte c ∷ Fnc1 ∷ m) none = absurd cc
-no_fnc1_sign (Byte b ∷ Byte c ∷ Byte d ∷ m) none = refl
+no_fnc1_sign m h1 = grind (arith, nat_tests)
 
 -- One segment of all bytes is a plain form.
 segment_plain : (m : List Item) (count : ℕ) → AreItems m → has_fnc1 m ≡ false → 0 < length m → length m < 1750
@@ -71,8 +65,7 @@ form_plain : (profile : Profile) (head : Option Head) (items : List Item) (marks
     → IsPlainWithPads (content_form profile (view_of head items marks)) (view_of head items marks)
 form_plain Ascii head items marks w few count fits = ascii_plain (view_of head items marks) count w fits
 form_plain Shorter None items [] w few count fits = shorter_plain items count w.items few fits
-form_plain Shorter None items (m ∷ marks) w few count fits =
-    ascii_plain (view_of None items (m ∷ marks)) count w fits
+form_plain Shorter None items (m ∷ marks) w few count fits = ascii_plain _ count w fits
 form_plain Shorter (Some head) items marks w few count fits = ascii_plain (view_of (Some head) items marks) count w fits
 
 pub content_form_plain : (profile : Profile) (l : ContentView) → IsContent l → length (content_form profile l) ≤ 1558
@@ -85,8 +78,7 @@ content_form_plain profile l right few =
 pub written_plain : (profile : Profile) (l : ContentView) (words : List ℕ) → words ≡ content_form profile l
     → length words ≤ 1558 → IsContent l → IsPlainWithPads words l
 written_plain profile l words is few right =
-    subst (λ (ws : List ℕ). IsPlainWithPads ws l) (sym is)
-    (content_form_plain profile l right (omega (arith, ap length is, few)))
+    rw (sym is) at (content_form_plain profile l right (omega (arith, ap length is, few)))
 
 -- A message is a content.
 pub message_is_content : (m : List Item) → IsMessage m → IsContent (as_content m)

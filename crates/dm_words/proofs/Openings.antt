@@ -1,13 +1,12 @@
 -- The opening that is found first is the one of the definition.
 use Rattle.dm_words.proofs.Names.{drop-cons, ◌≡◌, ℕ, zero, suc, ◌+◌, ◌≤◌, List, [], ◌∷◌, ◌++◌, length, drop, refl, sym}
 use Rattle.dm_words.proofs.Names.{ap, subst, ◌∙◌, arith, Bool, true, false, cond, Option, Some, None, inl, inr, ◌==◌}
-use Rattle.dm_words.proofs.Names.{◌&&◌, ◌⊎◌, slice_get, nat_tests, Codeword, CodeSet, Extent, Usual, Wide, Head, Opened}
+use Rattle.dm_words.proofs.Names.{◌&&◌, slice_get, nat_tests, Codeword, CodeSet, Extent, Usual, Wide, Head, Opened}
 use Rattle.dm_words.proofs.Names.{Opening, Plain, codeword_of, unlatch_word, SpellsHead, programming, appended}
 use Rattle.dm_words.proofs.Names.{BeginsNoHead, AreEmptyRuns, AreFrame, BeginsFrame, BeginsWithHeadWord, IsOpening}
 use Rattle.dm_words.proofs.Names.{headed, framed, plain, is_one_word, append_by, first_head, head_length, moved, opened}
 use Rattle.std.proofs.lemmas.Option.{slice_get_within, get_or_from_slice_get}
 use Rattle.dm_words.specs.declared.codeword.Codeword.TheVariants as codeword
-use Rattle.dm_words.specs.declared.contents.head.Head.TheVariants as head
 use Rattle.dm_words.specs.declared.contents.opening.Frame.{Frame}
 use Rattle.dm_words.specs.inner.Scan.Prefixes.{digit_by, begins_with_one_word}
 use Rattle.dm_words.specs.inner.ContentScan.{is_latch, is_empty_run, frame_by, first_frame, begins_append, opened_by}
@@ -31,17 +30,7 @@ FrameJudged words (Some f) = FrameFound words f
 
 -- A codeword whose meaning has a digit is a macro.
 digit_is : (k : Option Codeword) (digit : ℕ) → digit_by k ≡ Some digit → k ≡ Some (codeword.Macro digit)
-digit_is (Some (codeword.Macro d)) digit e = (let same : d ≡ digit = cc in rw same refl)
-digit_is (Some (codeword.Character b)) digit e = absurd cc
-digit_is (Some codeword.Pad) digit e = absurd cc
-digit_is (Some (codeword.Digits n)) digit e = absurd cc
-digit_is (Some (codeword.Latch set)) digit e = absurd cc
-digit_is (Some codeword.Base256) digit e = absurd cc
-digit_is (Some codeword.Fnc1) digit e = absurd cc
-digit_is (Some codeword.Edifact) digit e = absurd cc
-digit_is (Some codeword.UpperShift) digit e = absurd cc
-digit_is (Some codeword.LeftOut) digit e = absurd cc
-digit_is None digit e = absurd cc
+digit_is k digit h1 = grind (arith, nat_tests)
 
 -- A macro is a frame.
 one_macro : (w d : ℕ) (more : List ℕ) → digit_by (codeword_of w) ≡ Some d
@@ -158,16 +147,7 @@ append_is (w ∷ more) e = (let is : w ≡ 233 = grind (arith, nat_tests) in (mo
 
 -- Where no head is found and the words don't begin with structured append, they begin with none of its two codewords.
 no_head_word : (words : List ℕ) → first_head words ≡ None → begins_append words ≡ false → BeginsWithHeadWord words → ⊥
-no_head_word words e a b = by_word b.is_head_word where
-  by_word : (b.word ≡ 233) ⊎ (b.word ≡ 234) → ⊥
-  by_word (inl is) =
-      let w : words ≡ 233 ∷ b.more = b.whole ∙ ap (λ (x : ℕ). x ∷ b.more) is in
-      let t : begins_append words ≡ true = ap begins_append w in
-      absurd cc
-  by_word (inr is) =
-      let w : words ≡ 234 ∷ b.more = b.whole ∙ ap (λ (x : ℕ). x ∷ b.more) is in
-      let t : first_head words ≡ Some head.Programming = ap first_head w in
-      absurd cc
+no_head_word words h1 h2 h3 = grind (arith, nat_tests, begins_append)
 
 -- Where no frame is found, the words begin with none.
 no_frame : (words : List ℕ) → first_frame words ≡ None → BeginsFrame words → ⊥
@@ -285,21 +265,15 @@ pub complete : (extent : Extent) (words more : List ℕ) (opening : Opening) →
 complete extent words more opening (headed said wide s is) =
     rw (wide, is, heads.head_complete words more said s, head_count words said s) refl
 complete extent words more opening (framed digit wide f is) =
-    let o = subst (λ (r : List ℕ). OpensOtherwise (r ++ more)) (sym f.whole)
-    (frame_opens f.runs more f.word digit f.are_empty f.is_macro) in
+    let o = rw (sym f.whole) at (frame_opens f.runs more f.word digit f.are_empty f.is_macro) in
     rw (wide, is, o.head, o.append, frame_complete words more digit f) refl
 complete Usual words more opening (plain e no_head no_frame_there is) = rw (e, is) refl
 complete Wide words more opening (plain e no_head no_frame_there is) =
-    rw (e, is)
-    (plain_by more (first_head more) (begins_append more) (first_frame more) refl refl refl (no_head refl)
-    (no_frame_there refl))
+    grind (arith, plain_by, first_head, begins_append, first_frame)
 
 -- Where structured append begins no head, nothing opens.
 pub no_head_complete : (words more : List ℕ) → words ≡ 233 ∷ more → BeginsNoHead words → opened Wide words ≡ None
-no_head_complete words more e none =
-    let h = heads.none_found words (first_head words) refl none in
-    let a : begins_append words ≡ true = ap begins_append e in
-    rw (h, a) refl
+no_head_complete words more e none = grind (arith, heads.none_found, first_head, begins_append)
 
 -- ---- the loop that goes over empty runs
 
@@ -366,8 +340,7 @@ run_next words at w (Some n) total e f m r so_far =
     let within = slice_get_within words (at + 1) n f in
     let one : suc at ≡ at + 1 = omega arith in
     let two : suc (at + 1) ≡ at + 2 = omega arith in
-    let behind : drop (suc at) words ≡ n ∷ drop (at + 2) words = ap (λ (k : ℕ). drop k words) one
-    ∙ word_there words (at + 1) n f ∙ ap (λ (k : ℕ). n ∷ drop k words) two in
+    let behind : drop (suc at) words ≡ n ∷ drop (at + 2) words = cc (word_there words (at + 1) n f) in
     let here : drop at words ≡ w ∷ n ∷ drop (at + 2) words = word_there words at w e
     ∙ ap (λ (l : List ℕ). w ∷ l) behind in (
       omega (arith, within),
@@ -379,10 +352,7 @@ run_next words at w (Some n) total e f m r so_far =
 pub none_at_end : (words : List ℕ) (at : ℕ) (total : Option Frame) → slice_get words at ≡ None → total
     ≡ moved at (first_frame (drop at words)) → None ≡ total
 unfolding first_frame
-none_at_end words at total e so_far = by_more (drop at words) refl where
-  by_more : (more : List ℕ) → drop at words ≡ more → None ≡ total
-  by_more [] here = sym (so_far ∙ rw here refl)
-  by_more (n ∷ more) here = (let there = at_first words at n more here in absurd cc)
+none_at_end words at total h1 h2 = grind (arith, nat_tests, at_first)
 
 -- ---- a first codeword that is a part by itself
 
@@ -405,29 +375,17 @@ no_frame_alone : (w : ℕ) (more : List ℕ) → digit_by (codeword_of w) ≡ No
     → first_frame (w ∷ more) ≡ None
 unfolding first_frame
 no_frame_alone w [] d l = ap (λ (o : Option ℕ). frame_by o None) d
-no_frame_alone w (next ∷ more) d l =
-    ap (λ (o : Option ℕ). frame_by o
-    (cond (is_empty_run (codeword_of w) (Some next)) (moved 2 (first_frame more)) None)) d
-    ∙ ap (λ (b : Bool). cond (b && (next == unlatch_word)) (moved 2 (first_frame more)) None) l
+no_frame_alone w (next ∷ more) d l = cc
 
 -- It isn't structured append or reader programming.
 alone_other : (w v : ℕ) → is_one_word (codeword_of w) ≡ true → is_one_word (codeword_of v) ≡ false → w ≡ v → ⊥
 alone_other w v e f is = (let g : true ≡ false = sym e ∙ ap (λ (x : ℕ). is_one_word (codeword_of x)) is ∙ f in cc)
 
 no_append_alone : (w : ℕ) → (w ≡ 233 → ⊥) → (w == 233) ≡ false
-no_append_alone w other = by_test (w == 233) refl where
-  by_test : (t : Bool) → (w == 233) ≡ t → t ≡ false
-  by_test true e = absurd (other (grind (arith, nat_tests)))
-  by_test false e = refl
+no_append_alone w h1 = grind (arith, nat_tests)
 
 no_head_alone : (w : ℕ) (more : List ℕ) → (w ≡ 233 → ⊥) → (w ≡ 234 → ⊥) → first_head (w ∷ more) ≡ None
-no_head_alone w more not_append not_programming = by_tests (w == 234) (w == 233) refl refl where
-  by_tests : (s t : Bool) → (w == 234) ≡ s → (w == 233) ≡ t
-      → cond s (Some head.Programming)
-      (cond t (append_by (slice_get (w ∷ more) 1) (slice_get (w ∷ more) 2) (slice_get (w ∷ more) 3)) None) ≡ None
-  by_tests true t e f = absurd (not_programming (grind (arith, nat_tests)))
-  by_tests false true e f = absurd (not_append (grind (arith, nat_tests)))
-  by_tests false false e f = refl
+no_head_alone w more h1 h2 = grind (arith, nat_tests, append_by, slice_get)
 
 -- Where it is the first one, nothing opens the content.
 pub alone_opens : (words : List ℕ) → begins_with_one_word words ≡ true

@@ -1,7 +1,7 @@
 -- Lemmas on pads.
-use Rattle.dm_words.proofs.Names.{◌≡◌, ℕ, zero, suc, ◌+◌, ◌-◌, ◌*◌, ◌%◌, ◌<◌, ◌≤◌, List, [], ◌∷◌, ◌++◌, length}
-use Rattle.dm_words.proofs.Names.{length-append, refl, sym, ap, ◌∙◌, append_assoc, add-zero, arith, Bool, true, false}
-use Rattle.dm_words.proofs.Names.{cond, leb, nat_tests, further_pads, pads, padded, AreBytes, ArePads}
+use Rattle.dm_words.proofs.Names.{◌≡◌, ℕ, zero, suc, ◌+◌, ◌-◌, ◌<◌, ◌≤◌, List, [], ◌∷◌, ◌++◌, length, length-append}
+use Rattle.dm_words.proofs.Names.{refl, sym, ap, ◌∙◌, append_assoc, add-zero, arith, nat_tests, further_pads, pads}
+use Rattle.dm_words.proofs.Names.{padded, AreBytes, ArePads}
 use Rattle.dm_words.specs.Pads.{pad_at}
 use Rattle.dm_words.proofs.Segments.{AreBytes-append}
 
@@ -16,13 +16,7 @@ further_pads-push place (suc n) =
 pub pads_more : (words : List ℕ) (place : ℕ) (old new : List ℕ) (p : ℕ) → length words + 2 ≤ place → p ≡ pad_at place
     → old ≡ words ++ 129 ∷ further_pads (length words + 2) (place - (length words + 2))
     → new ≡ old ++ p ∷ [] → new ≡ words ++ 129 ∷ further_pads (length words + 2) (place + 1 - (length words + 2))
-pads_more words place old new p le is so_far e =
-    let n = place - (length words + 2) in
-    let count : place + 1 - (length words + 2) ≡ suc n = omega arith in
-    let at : length words + 2 + n ≡ place = omega arith in
-    let more = further_pads-push (length words + 2) n in
-    rw (e, so_far, count, more, at, is)
-    (append_assoc words (129 ∷ further_pads (length words + 2) n) (pad_at place ∷ []))
+pads_more words place old new p le is so_far e = grind (arith, further_pads-push, append_assoc, further_pads, pad_at)
 
 -- There are as many further pads as asked for.
 length-further_pads : (place n : ℕ) → length (further_pads place n) ≡ n
@@ -36,12 +30,7 @@ length-pads place (suc n) = ap suc (length-further_pads (place + 1) n)
 
 -- The codewords and their pads are as many as asked for.
 pub length-padded : (words : List ℕ) (count : ℕ) → length words ≤ count → length (padded words count) ≡ count
-length-padded words count le =
-    omega (
-      arith,
-      length-append words (pads (length words + 1) (count - length words)),
-      length-pads (length words + 1) (count - length words),
-    )
+length-padded words count le = grind (arith, length-append, length-pads)
 
 -- The pads behind words up to a count are those of their places.
 pub pads_are : (words : List ℕ) (count : ℕ)
@@ -56,11 +45,7 @@ pads_are words count =
 
 -- A pad is a codeword.
 pad_byte : (place : ℕ) → pad_at place < 256
-pad_byte place =
-    by_test (129 + ((149 * place) % 253 + 1)) (leb (129 + ((149 * place) % 253 + 1)) 254) refl (omega arith) where
-      by_test : (n : ℕ) (t : Bool) → leb n 254 ≡ t → n < 384 → cond t n (n - 254) < 256
-      by_test n true e lt = (let le : n ≤ 254 = grind (arith, nat_tests) in omega arith)
-      by_test n false e lt = omega arith
+pad_byte place = grind (arith, nat_tests)
 
 -- Pads that are not the first of the symbol are codewords.
 further_pads_bytes : (place n : ℕ) → AreBytes (further_pads place n)

@@ -124,27 +124,13 @@ pub pair_complete : IsComplete first_pair PairRight
 pair_complete place words after values p =
     let n = 256 * p.high + p.low in
     let le : n ≤ 64000 = omega (arith, p.number, p.first_small, p.second_small, p.third_small) in
-    let pos : 0 < n = omega (arith, p.number) in
     let x : eqb p.high 254 ≡ false = not_unlatch p.high p.low n refl le in
     let y : eqb (256 * p.high + p.low) 0 ≡ false = grind (arith, nat_tests) in
     let z : ltb 64000 (256 * p.high + p.low) ≡ false = grind (arith, nat_tests) in
-    let d = values_again (256 * p.high + p.low) p.first p.second p.third p.first_small p.second_small p.third_small
-    p.number in
+    let d = values_again _ p.first p.second p.third p.first_small p.second_small p.third_small p.number in
     rw (p.words_are, p.values_are) ((rw (x, y, z, d.0, d.1, d.2) refl), omega arith)
 
 -- Where no pair stands, none is found.
 pub stop_complete : (place : ℕ) (words : List ℕ) (kind : PairsEnd) → IsStop words kind → first_pair place words
     ≡ Stops kind
-stop_complete place words kind (over e is) = rw (e, is) refl
-stop_complete place words kind (one_left w ne e is) =
-    (let t : eqb w 254 ≡ false = grind (arith, nat_tests) in rw (e, is, t) refl)
-stop_complete place words kind (unlatched [] e is) = rw (e, is) refl
-stop_complete place words kind (unlatched (w ∷ more) e is) = rw (e, is) refl
-stop_complete place words kind (bad v w more ne h e is) =
-    let t : eqb v 254 ≡ false = grind (arith, nat_tests) in rw (e, is, t) (bad_number v w h) where
-      bad_number : (v w : ℕ) → (256 * v + w ≡ 0) ⊎ (64000 < 256 * v + w) → pair_by (256 * v + w) ≡ Stops stop.BadPair
-      bad_number v w (inl h) = rw h refl
-      bad_number v w (inr h) =
-          let y : eqb (256 * v + w) 0 ≡ false = (let p : 0 < 256 * v + w = omega arith in grind (arith, nat_tests)) in
-          let z : ltb 64000 (256 * v + w) ≡ true = grind (arith, nat_tests) in
-          rw (y, z) refl
+stop_complete place words kind h1 = grind (arith, nat_tests, pair_by)

@@ -1,11 +1,18 @@
 -- What the plan begins at an item is paid.
-use Rattle.dm_words.proofs.Names.{◌≡◌, ℕ, ◌+◌, ◌-◌, ◌<◌, ◌≤◌, List, [], ◌∷◌, length, drop, get_or, refl, sym, ap, subst}
-use Rattle.dm_words.proofs.Names.{◌∙◌, arith, Bool, true, false, cond, ◌&&◌, nat_le, length-drop, at_drop_more, Setting}
+use Rattle.dm_words.proofs.Names.{◌≡◌, ℕ, ◌+◌, ◌-◌, ◌<◌, ◌≤◌, List, [], ◌∷◌, length, drop, get_or, refl, ap, subst, ◌∙◌}
+use Rattle.dm_words.proofs.Names.{arith, Bool, true, false, cond, ◌&&◌, nat_le, length-drop, at_drop_more, Setting}
 use Rattle.dm_words.proofs.Names.{Item, CodeSet, C40, Text, X12, Begin, One, Two, Run, Edifact, Segment, Rest, never}
 use Rattle.dm_words.proofs.Names.{unit_cost, cost_of, segment_cost, is_digit_item, digit_first, pair_first, row}
 use Rattle.dm_words.proofs.Names.{parts_cost, going_from, going_pairs, IsRightStep}
 use Rattle.dm_words.specs.inner.Costs.{Step, owed}
 use Rattle.dm_words.proofs.CostsMet.{second_is}
+
+-- Two digits are paid.
+pub record IsPairAt (setting : Setting) (m : List Item) (i : ℕ) (d : Item) (words total : ℕ) : Type 0 where
+  pub second_there : i + 1 < length m
+  pub first : is_digit_item (get_or m i d) ≡ true
+  pub second : is_digit_item (get_or m (i + 1) d) ≡ true
+  pub paid : words + 1 + parts_cost setting (drop (i + 2) m) ≤ total
 
 module _ (setting : Setting) (m : List Item) (i : ℕ) (d : Item) (s : Step) (there : i < length m)
     (right : IsRightStep setting (drop i m) s) (words total : ℕ)
@@ -22,25 +29,16 @@ module _ (setting : Setting) (m : List Item) (i : ℕ) (d : Item) (s : Step) (th
       let here : IsRightStep setting (x ∷ rest) s = subst (λ (l : List Item). IsRightStep setting l s) cons right in
       let e : parts_cost setting (x ∷ rest)
       ≡ cost_of x (pair_first (x ∷ rest)) (row setting rest) (going_from setting (x ∷ rest)) s.begins = here.begins in
-      subst (λ (l : List Item). parts_cost setting l
-      ≡ cost_of x (pair_first l) (row setting rest) (going_from setting l) b) (sym cons)
-      (e
-      ∙ ap (λ (c : Begin). cost_of x (pair_first (x ∷ rest)) (row setting rest) (going_from setting (x ∷ rest)) c) is)
+      rw cons (e ∙ ap
+      (λ (c : Begin). cost_of x (pair_first (x ∷ rest)) (row setting rest) (going_from setting (x ∷ rest)) c) is)
 
   pub one_paid : s.begins ≡ One → words + unit_cost (get_or m i d) + parts_cost setting (drop (i + 1) m) ≤ total
   one_paid is = omega (arith, begin_cost One is, budget)
 
-  -- Two digits.
-  pub record IsPairAt : Type 0 where
-    pub second_there : i + 1 < length m
-    pub first : is_digit_item (get_or m i d) ≡ true
-    pub second : is_digit_item (get_or m (i + 1) d) ≡ true
-    pub paid : words + 1 + parts_cost setting (drop (i + 2) m) ≤ total
-
-  pub pair_paid : total < never → s.begins ≡ Two → IsPairAt
+  pub pair_paid : total < never → s.begins ≡ Two → IsPairAt setting m i d words total
   pair_paid small is = by_test (pair_first (drop i m)) refl (begin_cost Two is) where
     by_test : (t : Bool) → pair_first (drop i m) ≡ t → parts_cost setting (drop i m)
-        ≡ cond t (1 + (row setting (drop (i + 1) m)).second) never → IsPairAt
+        ≡ cond t (1 + (row setting (drop (i + 1) m)).second) never → IsPairAt setting m i d words total
     by_test false e cost = absurd (omega (arith, cost, budget, small))
     by_test true e cost =
         let both : is_digit_item (get_or m i d) && digit_first (drop (i + 1) m) ≡ true = (rw cons at e) in
@@ -50,13 +48,11 @@ module _ (setting : Setting) (m : List Item) (i : ℕ) (d : Item) (s : Step) (th
         let next : drop (i + 1) m ≡ get_or m (i + 1) d ∷ drop (i + 2) m =
         at_drop_more (λ (l : List Item). l) m (i + 1) d lt ∙ ap (λ (k : ℕ). get_or m (i + 1) d ∷ drop k m) two in
         let paid : (row setting (drop (i + 1) m)).second ≡ parts_cost setting (drop (i + 2) m) =
-        ap (λ (l : List Item). (row setting l).second) next
-        ∙ second_is setting (get_or m (i + 1) d) (drop (i + 2) m) in
+        cc (second_is setting (get_or m (i + 1) d) (drop (i + 2) m)) in
         record {
           second_there = lt;
           first = digits.0;
-          second = sym (ap digit_first next)
-              ∙ digits.1;
+          second = cc;
           paid = omega (arith, cost, budget, paid);
         } where
           halves : (a b : Bool) → a && b ≡ true → (a ≡ true) × (b ≡ true)

@@ -161,20 +161,15 @@ fault_complete extent place words f (reserved w more k e is) = rw (e, k, is) ref
 fault_complete extent place words f (left_out w more (always k) e is) = rw (e, k, is) refl
 fault_complete extent place words f (left_out w more (macro_behind digit k) e is) = rw (e, k, is) refl
 fault_complete extent place words f (left_out w more (edifact_left_out usual k) e is) = rw (e, k, is, usual) refl
-fault_complete extent place words f (faulty_run set r) =
-    run_found extent set place words (Stops (Some f)) (runs.fault_complete extent set place words f r)
-fault_complete extent place words f (faulty_segment s is) =
-    rw is (segment_found extent place words (Stops (Some (fault.Length place))) (bad_complete place words s))
+fault_complete extent place words f (faulty_run set r) = run_found _ _ _ _ _ (runs.fault_complete _ _ _ _ f r)
+fault_complete extent place words f (faulty_segment s is) = rw is (segment_found extent _ _ _ (bad_complete _ _ s))
 fault_complete extent place words f (unfinished w k e is) = rw (e, k, is) refl
 fault_complete extent place words f (upper_shift s w more k none_such e is) =
     rw (e, k, is) (no_character place (codeword_of w) none_such)
 
 -- A unit of ASCII has at most two items for each word.
 unit_room : (words : List ℕ) (items : List Item) → IsAsciiUnit words items → length items ≤ 2 * length words
-unit_room words items (character w b k e i) = rw (e, i) (omega arith)
-unit_room words items (digits w n k e i) = rw (e, i) (omega arith)
-unit_room words items (fnc1 w k e i) = rw (e, i) (omega arith)
-unit_room words items (raised s w b k l e i) = rw (e, i) (omega arith)
+unit_room words items h1 = grind arith
 
 -- A part has at most two items for each word.
 pub room_of : (extent : Extent) (place : ℕ) (words after : List ℕ) (items : List Item)

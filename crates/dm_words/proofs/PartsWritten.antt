@@ -13,14 +13,12 @@ module _ {B : Type 0} where
       → R (place + length (spelled ps)) q.words after q.what → AreJoined R place (ps ++ q ∷ []) after
   joined-last R place [] q after h one = ((rw add-zero at one), tt)
   joined-last R place (p ∷ ps) q after h one =
-      let all : spelled ps ++ (q.words ++ after) ≡ spelled (ps ++ q ∷ [])
-      ++ after = sym (append_assoc (spelled ps) q.words after)
-      ∙ ap (λ (l : List ℕ). l ++ after) (sym (spelled-last ps q)) in
+      let all : spelled ps ++ (q.words ++ after) ≡ spelled (ps ++ q ∷ []) ++ after =
+      cc (append_assoc (spelled ps) q.words after, spelled-last ps q) in
       let place_is : place + length (p.words ++ spelled ps) ≡ (place + length p.words) + length (spelled ps) =
       omega (arith, length-append p.words (spelled ps)) in (
         subst (λ (l : List ℕ). R place p.words l p.what) all h.0,
-        joined-last R (place + length p.words) ps q after h.1
-            (subst (λ (k : ℕ). R k q.words after q.what) place_is one),
+        joined-last R (place + length p.words) ps q after h.1 (rw place_is at one),
       )
 
 -- Nothing is written yet.
@@ -53,22 +51,19 @@ parts_more extent total base old new items more w p =
     λ after fills. omega (arith, fills, ap length p.whole, length-append old p.part, length-append p.part after) in
     record {
       parts = w.parts ++ piece ∷ [];
-      whole = p.whole ∙ ap (λ (l : List ℕ). l ++ p.part) w.whole ∙ append_assoc base (spelled w.parts) p.part
-          ∙ ap (λ (l : List ℕ). base ++ l) (sym (spelled-last w.parts piece));
+      whole = cc (p.whole, w.whole, append_assoc base (spelled w.parts) p.part, spelled-last w.parts piece);
       items_are = ap (λ (l : List Item). l ++ more) w.items_are ∙ sym (gathered-last w.parts piece);
       begins = λ after first.
           (let all : spelled w.parts ++ (p.part ++ after) ≡ spelled (w.parts ++ piece ∷ []) ++ after =
           sym (append_assoc (spelled w.parts) p.part after)
           ∙ ap (λ (l : List ℕ). l ++ after) (sym (spelled-last w.parts piece)) in
           subst NoUnlatchFirst all (w.begins (p.part ++ after) (no_unlatch p.part after p.some p.begins)));
-      right = λ after fills first.
-          joined-last (IsPart extent) (length base + 1) w.parts piece after
+      right = λ after fills first. joined-last (IsPart extent) (length base + 1) w.parts piece after
           (w.right (p.part ++ after) (fills_so after fills) (no_unlatch p.part after p.some p.begins))
-          (subst (λ (k : ℕ). IsPart extent k p.part after more) place (p.right after fills first));
-      plain = λ after fills first.
-          joined-last IsPlainPart (length base + 1) w.parts piece after
+          (rw place at (p.right after fills first));
+      plain = λ after fills first. joined-last IsPlainPart (length base + 1) w.parts piece after
           (w.plain (p.part ++ after) (fills_so after fills) (no_unlatch p.part after p.some p.begins))
-          (subst (λ (k : ℕ). IsPlainPart k p.part after more) place (p.plain after fills first));
+          (rw place at (p.plain after fills first));
     }
 
 -- Parts with an end behind them are parts.

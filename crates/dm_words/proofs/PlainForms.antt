@@ -37,9 +37,7 @@ first_is seen (Items items ∷ said) =
       by_marks [] le e = ap (λ (l : List Item). items ++ l) e
       by_marks (m ∷ ms) le e =
           let n : m.place - seen ≡ length items + (m.place - (seen + length items)) = omega (arith, le) in
-          ap (λ (k : ℕ). take k (items ++ said_items said)) n
-          ∙ take-append-add items (said_items said) (m.place - (seen + length items))
-          ∙ ap (λ (l : List Item). items ++ l) e
+          cc (take-append-add items (said_items said) (m.place - (seen + length items)))
 first_is seen (Number number ∷ said) =
     let none : seen - seen ≡ 0 = omega arith in ap (λ (k : ℕ). take k (said_items said)) none
 
@@ -74,13 +72,11 @@ frame_opens words opening place more opened b =
       whole = b.whole;
       place_is = refl;
     } in
-    one_opening _ _ _ (opens_so Wide words opening place more opened).0
-    (opens_so Wide words (Framed b.digit) (1 + length b.first) b.more there).0
+    one_opening _ _ _ (opens_so _ _ _ _ _ opened).0 (opens_so _ _ _ _ _ there).0
 
 -- What is said plainly has no macro before FNC1.
 no_frame : (words : List ℕ) (l : ContentView) → SaysPlainly words l → FramesNoFnc1 words l.items
-no_frame words l p fnc1 b =
-    p.no_fnc1 b.digit (frame_opens words p.spells.opening p.spells.place p.spells.more p.spells.opened b) fnc1
+no_frame words l p fnc1 b = p.no_fnc1 b.digit (frame_opens _ _ _ _ p.spells.opened b) fnc1
 
 -- ---- the number
 
@@ -99,22 +95,16 @@ module _ (words : List ℕ) (l : ContentView) (p : SaysPlainly words l)
       → fnc1_number (drop (length (head_words l.head)) words) ≡ fnc1_number (sign_words text)
   behind_head rest items marks =
       let parts = p.spells.parts in
-      let here : text ≡ first_said (whats parts.parts) =
-      ap (λ (i : List Item). first_text 0 i l.marks) items
-      ∙ ap (λ (ms : List Mark). first_text 0 (said_items p.spells.said) ms) marks ∙ first_is 0 p.spells.said
-      ∙ ap first_said parts.said_are in
-      let kept : spelled parts.parts ++ parts.after ≡ sign_words text ++ sign.0 = sym parts.whole ∙ sym rest
-      ∙ ap (drop (length (head_words l.head))) sign.1
-      ∙ drop-append_seam (head_words l.head) (sign_words text ++ sign.0) in
-      ap fnc1_number (rest ∙ parts.whole)
-      ∙ number_of_sign p.spells.place parts.parts parts.after sign.0 text p.plain parts.ended here kept
+      let here : text ≡ first_said (whats parts.parts) = cc (first_is 0 p.spells.said, parts.said_are) in
+      let kept : spelled parts.parts ++ parts.after ≡ sign_words text ++ sign.0 =
+      cc (parts.whole, sign.1, drop-append_seam (head_words l.head) (sign_words text ++ sign.0)) in
+      cc (parts.whole, number_of_sign p.spells.place parts.parts parts.after sign.0 text p.plain parts.ended here kept)
 
   number_by : IsOpening Wide p.spells.opened.first p.spells.more p.spells.opening
       → fnc1_number (drop (length (head_words l.head)) words) ≡ fnc1_number (sign_words text)
   number_by (headed h wide s is) =
       let e = content_by _ is in
-      let head : head_words l.head ≡ p.spells.opened.first = ap (λ (k : ContentView). head_words k.head) e
-      ∙ sym (heads.head_only p.spells.opened.first h s).1 in
+      let head : head_words l.head ≡ p.spells.opened.first = cc ((heads.head_only p.spells.opened.first h s).1) in
       behind_head (ap (λ (ws : List ℕ). drop (length ws) words) head
       ∙ ap (drop (length p.spells.opened.first)) p.spells.opened.whole
       ∙ drop-append_seam p.spells.opened.first p.spells.more)
@@ -137,23 +127,16 @@ module _ (words : List ℕ) (l : ContentView) (p : SaysPlainly words l)
       let marks : l.marks ≡ said_marks 7 s.said = ap (λ (k : ContentView). k.marks) e in
       let none : f.runs ≡ [] = nil_from_length f.runs
       (omega (arith, p.macro_first digit is, ap length f.whole, length-append f.runs (f.word ∷ []))) in
-      let whole : words ≡ f.word ∷ (spelled parts.parts ++ parts.after) = s.opened.whole
-      ∙ ap (λ (ws : List ℕ). ws ++ s.more) (f.whole ∙ ap (λ (r : List ℕ). r ++ f.word ∷ []) none)
-      ∙ ap (λ (ws : List ℕ). f.word ∷ ws) parts.whole in
+      let whole : words ≡ f.word ∷ (spelled parts.parts ++ parts.after) = cc in
       let no_fnc1 : BeginsFnc1 (first_said (whats parts.parts)) → ⊥ = λ b. p.no_fnc1 digit is (
         digit,
         said_items s.said,
         items,
-        first_fnc1 s.said (subst (λ (q : List Said). BeginsFnc1 (first_said q))
-            (sym parts.said_are) b),
+        first_fnc1 s.said (rw (sym parts.said_are) at b),
       ) in
       let sign_none : sign_words text ≡ [] =
-      ap (λ (i : List Item). sign_words (first_text 0 i l.marks)) items
-      ∙ ap (λ (ms : List Mark). sign_words (first_text 0 (macro_text digit (said_items s.said)) ms)) marks
-      ∙ frame_sign digit (said_items s.said) (said_marks 7 s.said) (starts 7 7 s.said (omega arith)) in
-      ap (λ (h : Option Head). fnc1_number (drop (length (head_words h)) words)) head ∙ ap fnc1_number whole
-      ∙ number_of_macro s.place f.word digit parts.parts parts.after f.is_macro p.plain parts.ended no_fnc1
-      ∙ ap fnc1_number (sym sign_none)
+      cc (frame_sign digit (said_items s.said) (said_marks 7 s.said) (starts 7 7 s.said (omega arith))) in
+      cc (number_of_macro s.place f.word digit parts.parts parts.after f.is_macro p.plain parts.ended no_fnc1)
 
   number : fnc1_number (drop (length (head_words l.head)) words) ≡ fnc1_number (sign_words text)
   number = number_by p.spells.opened.is_opening
@@ -198,8 +181,7 @@ ascii_sign (Byte b ∷ Byte c ∷ Fnc1 ∷ m) =
 pub keeps_more : (old new after : List ℕ) (m : List Item) → KeepsSign old new m → KeepsSign old (new ++ after) m
 keeps_more old new after m k = (
   k.0 ++ after,
-  ap (λ (l : List ℕ). l ++ after) k.1 ∙ append_assoc old (sign_words m ++ k.0) after
-      ∙ ap (λ (l : List ℕ). old ++ l) (append_assoc (sign_words m) k.0 after),
+  cc (k.1, append_assoc old (sign_words m ++ k.0) after, append_assoc (sign_words m) k.0 after),
 )
 
 -- Others before it too.
@@ -233,17 +215,14 @@ form_plainly l count w fits =
     let base = head_words l.head in
     let new = base ++ ascii_with_marks 0 l.items l.marks in
     let is : content_form Ascii l ≡ new = form_is l.head l.items l.marks in
-    subst (λ (ws : List ℕ). SaysPlainly (padded ws count) l) (sym is)
-    (says_by_head count base new l.head l.items l.marks w.head refl
+    rw (sym is) at (says_by_head count base new l.head l.items l.marks w.head refl
     (form_said count base new l.items l.marks w.items w.marks refl) (omega (arith, fits, ap length is)))
 
 -- And it keeps the sign.
 pub form_sign : (l : ContentView) → KeepsSign (head_words l.head) (content_form Ascii l) (first_text 0 l.items l.marks)
 form_sign l =
-    subst (λ (ws : List ℕ). KeepsSign (head_words l.head) ws (first_text 0 l.items l.marks))
-    (sym (form_is l.head l.items l.marks))
-    (keeps_behind (head_words l.head) (ascii_with_marks 0 l.items l.marks) (first_text 0 l.items l.marks)
-    (marked_sign l.items l.marks))
+    rw (sym (form_is l.head l.items l.marks)) at (keeps_behind (head_words l.head) (ascii_with_marks 0 l.items l.marks)
+    (first_text 0 l.items l.marks) (marked_sign l.items l.marks))
 
 -- Without pads too.
 no_pads : (words : List ℕ) → padded words (length words) ≡ words
@@ -258,8 +237,7 @@ pub plain_form : (words : List ℕ) (l : ContentView) → IsWritable l → SaysP
     → KeepsSign (head_words l.head) words (first_text 0 l.items l.marks) → IsPlainForm words l
 plain_form words l w p sign =
     let form = content_form Ascii l in
-    let fp : SaysPlainly form l = subst (λ (ws : List ℕ). SaysPlainly ws l) (no_pads form)
-    (form_plainly l (length form) w (omega arith)) in
+    let fp : SaysPlainly form l = rw (no_pads form) at (form_plainly l (length form) w (omega arith)) in
     let same = number words l p sign ∙ sym (number form l fp (form_sign l)) in
     record {
       plain = record {
@@ -318,8 +296,7 @@ pub message_form : (extent : Extent) (count : ℕ) (base new : List ℕ) (m : Li
     → ArePartsWritten extent count base new m → KeepsSign base new m → length new ≤ count
     → IsPlainForm (padded new count) (as_content m)
 message_form extent count base new m fit none w sign fits =
-    let here : ArePartsWritten Wide count [] new m =
-    subst (λ (b : List ℕ). ArePartsWritten Wide count b new m) none (parts_wide extent count base new m w) in
+    let here : ArePartsWritten Wide count [] new m = rw none at (parts_wide extent count base new m w) in
     plain_form (padded new count) (as_content m) (message_writable m fit)
     (says_plain count new m [] (text_said count [] [] new 0 [] m [] (nothing_said count [] 0) here) fits)
     (keeps_more [] new _ m (subst (λ (b : List ℕ). KeepsSign b new m) none sign))
@@ -340,10 +317,9 @@ pub macro_form : (extent : Extent) (count word : ℕ) (base new : List ℕ) (m t
 macro_form extent count word base new m text fit one is_text is w fits =
     let framed : m ≡ macro_text is.digit text = is.framed ∙ ap (macro_text is.digit) (sym is_text) in
     let none : BeginsFnc1 text → ⊥ = λ b. is.no_fnc1 (subst BeginsFnc1 is_text b) in
-    plain_form (padded new count) (as_content m) (message_writable m fit)
-    (says_framed count word is.digit base new m text [] is.is_macro framed one
-    (text_said count base base new 7 [] text [] (nothing_said count base 7) (parts_wide extent count base new text w))
-    none fits) (framed_sign (padded new count) m [] is.digit text framed tt)
+    plain_form _ _ (message_writable m fit) (says_framed _ word is.digit _ _ m _ _ is.is_macro framed one
+    (text_said _ _ _ _ 7 _ _ _ (nothing_said count base 7) (parts_wide _ _ _ _ _ w)) none fits)
+    (framed_sign (padded new count) m [] is.digit text framed tt)
 
 -- ---- contents
 
@@ -361,15 +337,11 @@ sign_turn base words new newer part more seen items (m ∷ marks) zero from end 
     let same : take (end - from) (drop from items) ≡ take (m.place - seen) items =
     ap (λ (n : ℕ). take (end - n) (drop n items)) f.0 ∙ ap (λ (n : ℕ). take n items) (omega (arith, place)) in
     subst (λ (l : List ℕ). KeepsSign base l (take (m.place - seen) items)) (sym added)
-    (keeps_more base new more (take (m.place - seen) items)
-    (subst (λ (l : List Item). KeepsSign base new l) same
-    (subst (λ (b : List ℕ). KeepsSign b new (take (end - from) (drop from items))) f.1 text)))
+    (keeps_more base new more (take (m.place - seen) items) (rw same at (rw f.1 at text)))
 sign_turn base words new newer part more seen items (m ∷ marks) (suc k) from end d lt place first later text is added =
     let here = later (omega arith) in
-    subst (λ (l : List ℕ). KeepsSign base l (take (m.place - seen) items)) (sym added)
-    (keeps_more base new more (take (m.place - seen) items)
-    (subst (λ (l : List ℕ). KeepsSign base l (take (m.place - seen) items)) (sym is)
-    (keeps_more base words part (take (m.place - seen) items) here)))
+    subst (λ (l : List ℕ). KeepsSign base l (take (m.place - seen) items)) (sym added) (keeps_more base new more
+    (take (m.place - seen) items) (rw (sym is) at (keeps_more base words part (take (m.place - seen) items) here)))
 
 -- So does the text behind the last mark.
 pub sign_end : (base words new part : List ℕ) (seen : ℕ) (items : List Item) (marks : List Mark) (k from : ℕ)
@@ -379,14 +351,11 @@ pub sign_end : (base words new part : List ℕ) (seen : ℕ) (items : List Item)
     → KeepsSign base new (first_text seen items marks)
 sign_end base words new part seen items [] zero from le first later text is =
     let f = first refl in
-    let same : take (length items - from) (drop from items) ≡ items = take_rest items from
-    ∙ ap (λ (n : ℕ). drop n items) f.0 in
-    subst (λ (l : List Item). KeepsSign base new l) same
-    (subst (λ (b : List ℕ). KeepsSign b new (take (length items - from) (drop from items))) f.1 text)
+    let same : take (length items - from) (drop from items) ≡ items = cc (take_rest items from, f.0) in
+    subst (λ (l : List Item). KeepsSign base new l) same (rw f.1 at text)
 sign_end base words new part seen items (m ∷ marks) zero from le first later text is = absurd (omega (arith, le))
 sign_end base words new part seen items marks (suc k) from le first later text is =
-    subst (λ (l : List ℕ). KeepsSign base l (first_text seen items marks)) (sym is)
-    (keeps_more base words part (first_text seen items marks) (later (omega arith)))
+    rw (sym is) at (keeps_more base words part (first_text seen items marks) (later (omega arith)))
 
 -- Behind a head, or none, what is said with marks is a plain form.
 pub headed_form : (count : ℕ) (base new : List ℕ) (head : Option Head) (items : List Item) (marks : List Mark)
@@ -396,8 +365,7 @@ pub headed_form : (count : ℕ) (base new : List ℕ) (head : Option Head) (item
 headed_form count base new head items marks w is said sign fits =
     plain_form (padded new count) (view_of head items marks) w
     (says_by_head count base new head items marks w.head is said fits)
-    (keeps_more (head_words head) new _ (first_text 0 items marks)
-    (subst (λ (b : List ℕ). KeepsSign b new (first_text 0 items marks)) is sign))
+    (keeps_more (head_words head) new _ (first_text 0 items marks) (rw is at sign))
 
 -- Behind a macro too.
 pub framed_form : (count word digit : ℕ) (base new : List ℕ) (items text : List Item) (marks : List Mark)
@@ -405,6 +373,5 @@ pub framed_form : (count word digit : ℕ) (base new : List ℕ) (items text : L
     → items ≡ macro_text digit text → base ≡ word ∷ [] → AreSaid count base new 7 text marks → StartAt 7 marks
     → (BeginsFnc1 text → ⊥) → length new ≤ count → IsPlainForm (padded new count) (view_of None items marks)
 framed_form count word digit base new items text marks w k is one said from none fits =
-    plain_form (padded new count) (view_of None items marks) w
-    (says_framed count word digit base new items text marks k is one said none fits)
-    (framed_sign (padded new count) items marks digit text is from)
+    plain_form _ _ w (says_framed _ word digit _ _ _ _ _ k is one said none fits)
+    (framed_sign (padded new count) _ marks digit text is from)

@@ -1,13 +1,13 @@
 -- The plan and the cost that the loop finds are those of the definition.
 use Rattle.dm_words.proofs.Names.{◌≡◌, ℕ, zero, suc, ◌+◌, ◌-◌, ◌*◌, ◌<◌, ◌≤◌, List, [], ◌∷◌, length, drop, get_or, refl}
-use Rattle.dm_words.proofs.Names.{◌⊎◌, sym, ap, subst, ◌∙◌, ◌++◌, ◌&&◌, arith, Bool, true, false, cond, ltb, inl, inr}
-use Rattle.dm_words.proofs.Names.{nat_le, ◌==◌, cases_lt, append-nil, at_drop_all, drop-drop, get_or-set_same}
-use Rattle.dm_words.proofs.Names.{get_or-set_other, length-append, set, drop-cons, Extent, Setting, Item, Byte, Fnc1}
-use Rattle.dm_words.proofs.Names.{CodeSet, C40, Text, X12, Pairs, Groups, Going, Row, Begin, One, Two, never, is_basic}
-use Rattle.dm_words.proofs.Names.{low_values, shift_values, set_values, has_edifact, stay, stay_edifact, least, cost_of}
-use Rattle.dm_words.proofs.Names.{going_over, with_ascii, StepBits, Costs, HasRow, step_in, none_going, rest_behind}
-use Rattle.dm_words.proofs.Names.{most_behind, parts_cost, pair_first, IsWithin, IsRightStep, unit_cost, ascii}
-use Rattle.dm_words.proofs.Names.{digit_pair, is_digit, single, digit_first, is_digit_item, step_of}
+use Rattle.dm_words.proofs.Names.{◌⊎◌, sym, ap, subst, ◌++◌, ◌&&◌, arith, Bool, true, false, cond, inl, inr, nat_le}
+use Rattle.dm_words.proofs.Names.{cases_lt, append-nil, at_drop_all, drop-drop, get_or-set_same, get_or-set_other}
+use Rattle.dm_words.proofs.Names.{length-append, set, drop-cons, Extent, Setting, Item, Byte, Fnc1, CodeSet, C40, Text}
+use Rattle.dm_words.proofs.Names.{X12, Pairs, Groups, Going, Row, Begin, One, Two, never, is_basic, low_values}
+use Rattle.dm_words.proofs.Names.{shift_values, set_values, has_edifact, stay, stay_edifact, least, cost_of, going_over}
+use Rattle.dm_words.proofs.Names.{with_ascii, StepBits, Costs, HasRow, step_in, none_going, rest_behind, most_behind}
+use Rattle.dm_words.proofs.Names.{parts_cost, pair_first, IsWithin, IsRightStep, unit_cost, ascii, digit_pair, is_digit}
+use Rattle.dm_words.proofs.Names.{single, digit_first, is_digit_item, step_of}
 use Rattle.std.proofs.Math.Seq.{drop-length}
 use Rattle.dm_words.specs.inner.Costs.{Step, ArePaid, ArePaidGroups, AreSmall, row}
 use Rattle.dm_words.proofs.CostsMet.{least_is, is_least}
@@ -15,28 +15,15 @@ use Rattle.dm_words.proofs.SpellingCounts.{unit_few}
 
 -- A byte below 128 has at most two values in a set that has shifts.
 low_few : (set : CodeSet) (b : ℕ) → low_values set b ≤ 2
-low_few set b = by_test (is_basic set b) where
-  by_test : (t : Bool) → cond t 1 2 ≤ 2
-  by_test true = omega arith
-  by_test false = omega arith
+low_few set b = grind (arith, is_basic)
 
 -- An item has at most four there.
 shifts_few : (set : CodeSet) (x : Item) → shift_values set x ≤ 4
-shifts_few set Fnc1 = omega arith
-shifts_few set (Byte b) = by_test (ltb b 128) where
-  by_test : (t : Bool) → cond t (low_values set b) (2 + low_values set (b - 128)) ≤ 4
-  by_test true = omega (arith, low_few set b)
-  by_test false = omega (arith, low_few set (b - 128))
+shifts_few set x = grind (arith, low_values, low_few)
 
 -- An item has at most four values.
 values_few : (set : CodeSet) (x : Item) → set_values set x ≤ 4
-values_few C40 x = shifts_few C40 x
-values_few Text x = shifts_few Text x
-values_few X12 Fnc1 = omega arith
-values_few X12 (Byte b) = by_test (is_basic X12 b) where
-  by_test : (t : Bool) → cond t 1 0 ≤ 4
-  by_test true = omega arith
-  by_test false = omega arith
+values_few set x = grind (arith, shifts_few, is_basic)
 
 -- Costs of a run grow by at most four over an item.
 stay_paid : (count most : ℕ) (next : Pairs) → count ≤ 4 → ArePaid most next → never ≤ most
@@ -58,10 +45,7 @@ stay_edifact_paid false most next h big =
 
 -- Up to the end of the symbol it costs nothing, or more than any cost.
 rest_few : (behind : ℕ) → rest_behind behind ≤ never
-rest_few behind = by_test (behind == 0) where
-  by_test : (t : Bool) → cond t 0 never ≤ never
-  by_test true = omega arith
-  by_test false = omega arith
+rest_few behind = grind arith
 
 -- Items cost at most two codewords each.
 pub cost_most : (setting : Setting) (m : List Item) → parts_cost setting m ≤ setting.behind + 2 * length m
@@ -198,9 +182,7 @@ digit_last m = ap digit_first (drop-length m)
 -- Whether the items from one before a place on begin with a digit is said by that one.
 pub digit_here : (m : List Item) (at : ℕ) (x d : Item) → 0 < at → at ≤ length m → x ≡ get_or m (at - 1) d
     → is_digit_item x ≡ digit_first (drop (at - 1) m)
-digit_here m at x d some within is_x =
-    ap is_digit_item is_x
-    ∙ sym (ap digit_first (drop-cons m (at - 1) d (omega (arith, some, within))))
+digit_here m at x d some within is_x = cc ((ap digit_first (drop-cons m (at - 1) d (omega (arith, some, within)))))
 
 -- A turn of the loop.
 pub turn : (setting : Setting) (m : List Item) (at : ℕ) (x d : Item) (next new : Row) (pair : Bool) (going : Going)
@@ -214,19 +196,14 @@ pub turn : (setting : Setting) (m : List Item) (at : ℕ) (x d : Item) (next new
 turn setting m at x d next new pair going begins cost step some within is_x is_next is_pair is_going is_cost chosen
     takes is_step is_new =
     let k : suc (at - 1) ≡ at = omega (arith, some) in
-    let cons : drop (at - 1) m ≡ x ∷ drop at m = drop-cons m (at - 1) d (omega (arith, some, within))
-    ∙ ap (λ (i : ℕ). get_or m (at - 1) d ∷ drop i m) k ∙ ap (λ (y : Item). y ∷ drop at m) (sym is_x) in
+    let cons : drop (at - 1) m ≡ x ∷ drop at m = cc (drop-cons m (at - 1) d (omega (arith, some, within))) in
     let P : List Item → Type 0 = λ r. (new ≡ row setting r) × IsRightStep setting r step in
     subst P (sym cons)
-    (turn_here setting x (drop at m) next new pair going begins cost step is_next is_pair is_going is_cost chosen
-    takes is_step is_new)
+    (turn_here setting x (drop at m) _ _ _ _ _ _ _ is_next is_pair is_going is_cost chosen takes is_step is_new)
 
 -- A byte by itself takes so many codewords of ASCII.
 single_length : (b : ℕ) → length (single b) ≡ unit_cost (Byte b)
-single_length b = by_test (ltb b 128) where
-  by_test : (t : Bool) → length (cond t ((b + 1) ∷ []) (235 ∷ (b - 127) ∷ [])) ≡ cond t 1 2
-  by_test true = refl
-  by_test false = refl
+single_length b = grind arith
 
 -- So it is where the items behind it are by themselves.
 alone_length : (b : ℕ) (m : List Item) → ascii (Byte b ∷ m) ≡ single b ++ ascii m
@@ -237,26 +214,7 @@ alone_length b m e = omega (arith, ap length e, length-append (single b) (ascii 
 ascii_more : (x : Item) (rest : List Item) → length (ascii (x ∷ rest))
     ≡ cond (is_digit_item x && digit_first rest) (1 + length (ascii (drop 1 rest)))
     (unit_cost x + length (ascii rest))
-ascii_more Fnc1 rest = omega arith
-ascii_more (Byte b) [] = by_digit (is_digit b) where
-  by_digit : (s : Bool) → length (ascii (Byte b ∷ []))
-      ≡ cond (s && false) (1 + length (ascii (drop 1 []))) (unit_cost (Byte b) + length (ascii []))
-  by_digit true = alone_length b [] (sym (append-nil (single b)))
-  by_digit false = alone_length b [] (sym (append-nil (single b)))
-ascii_more (Byte b) (Fnc1 ∷ m) = by_digit (is_digit b) where
-  by_digit : (s : Bool) → length (ascii (Byte b ∷ Fnc1 ∷ m))
-      ≡ cond (s && false) (1 + length (ascii m)) (unit_cost (Byte b) + length (ascii (Fnc1 ∷ m)))
-  by_digit true = alone_length b (Fnc1 ∷ m) refl
-  by_digit false = alone_length b (Fnc1 ∷ m) refl
-ascii_more (Byte b) (Byte c ∷ m) = both (is_digit b) (is_digit c) refl refl where
-  both : (s t : Bool) → is_digit b ≡ s → is_digit c ≡ t → length (ascii (Byte b ∷ Byte c ∷ m))
-      ≡ cond (s && t) (1 + length (ascii m)) (unit_cost (Byte b) + length (ascii (Byte c ∷ m)))
-  both true true es et =
-      let pair : ascii (Byte b ∷ Byte c ∷ m) ≡ digit_pair b c ∷ ascii m = rw (es, et) refl in
-      omega (arith, ap length pair)
-  both true false es et = alone_length b (Byte c ∷ m) (rw (es, et) refl)
-  both false true es et = alone_length b (Byte c ∷ m) (rw es refl)
-  both false false es et = alone_length b (Byte c ∷ m) (rw es refl)
+ascii_more x rest = grind (arith, is_digit, unit_cost, alone_length, append-nil, digit_pair)
 
 -- So it is in a turn of the loop.
 pub ascii_turn : (m : List Item) (at : ℕ) (x d : Item) (pair : Bool) → 0 < at → at ≤ length m
@@ -265,13 +223,8 @@ pub ascii_turn : (m : List Item) (at : ℕ) (x d : Item) (pair : Bool) → 0 < a
     ≡ cond pair (1 + length (ascii (drop (at + 1) m))) (unit_cost x + length (ascii (drop at m)))
 ascii_turn m at x d pair some within is_x is_pair =
     let k : suc (at - 1) ≡ at = omega (arith, some) in
-    let cons : drop (at - 1) m ≡ x ∷ drop at m = drop-cons m (at - 1) d (omega (arith, some, within))
-    ∙ ap (λ (i : ℕ). get_or m (at - 1) d ∷ drop i m) k ∙ ap (λ (y : Item). y ∷ drop at m) (sym is_x) in
-    ap (λ (l : List Item). length (ascii l)) cons ∙ ascii_more x (drop at m)
-    ∙ ap (λ (b : Bool). cond b (1 + length (ascii (drop 1 (drop at m)))) (unit_cost x + length (ascii (drop at m))))
-    (sym is_pair)
-    ∙ ap (λ (l : List Item). cond pair (1 + length (ascii l)) (unit_cost x + length (ascii (drop at m))))
-    (drop-drop 1 at m)
+    let cons : drop (at - 1) m ≡ x ∷ drop at m = cc (drop-cons m (at - 1) d (omega (arith, some, within))) in
+    cc (ascii_more x (drop at m), drop-drop 1 at m)
 
 -- One more step of the plan is written.
 pub plan_more : (setting : Setting) (m : List Item) (at : ℕ) (old : List StepBits) (step : StepBits) → 0 < at
@@ -286,11 +239,9 @@ plan_more setting m at old step some within room right others i other from to =
           (sym (get_or-set_other old (at - 1) i step other (omega (arith, later))))
           (others i other (omega (arith, later, some)) to)
       | inr le ↦ (let e : at - 1 ≡ i = omega (arith, le, from) in
-          let here : IsRightStep setting (drop (at - 1) m)
-          (step_in (get_or (set old (at - 1) step) (at - 1) other)) =
-          subst (λ (s : StepBits). IsRightStep setting (drop (at - 1) m) (step_in s))
-          (sym (get_or-set_same old (at - 1) step other (omega (arith, within, some, room)))) right in
-          subst (λ (j : ℕ). IsRightStep setting (drop j m) (step_in (get_or (set old (at - 1) step) j other))) e here)
+          let here : IsRightStep setting (drop (at - 1) m) (step_in (get_or (set old (at - 1) step) (at - 1) other)) =
+          rw (sym (get_or-set_same old (at - 1) step other (omega (arith, within, some, room)))) at right in
+          rw (← e) here)
     ]
 
 -- The first step of the plan that is written is that behind the last item.
@@ -306,8 +257,7 @@ plan_first setting m old step room is i other from to =
     (record { begins = tt; pair = λ e. refl; one = λ e. inr refl; ends = refl }) in
     let here : IsRightStep setting (drop (length m) m) (step_in (get_or (set old (length m) step) (length m) other)) =
     subst (λ (s : StepBits). IsRightStep setting (drop (length m) m) (step_in s))
-    (sym (get_or-set_same old (length m) step other room))
-    (subst (λ (l : List Item). IsRightStep setting l (step_in step)) (sym all) right) in
+    (sym (get_or-set_same old (length m) step other room)) (rw (sym all) at right) in
     let e : length m ≡ i = omega (arith, from, to) in
     subst (λ (j : ℕ). IsRightStep setting (drop j m) (step_in (get_or (set old (length m) step) j other))) e here
 

@@ -1,10 +1,10 @@
 -- A run that follows the plan stays within its budget.
-use Rattle.dm_words.proofs.Names.{◌≡◌, ℕ, zero, suc, ◌+◌, ◌-◌, ◌*◌, ◌/◌, ◌%◌, ◌<◌, ◌≤◌, List, [], ◌∷◌, ◌++◌, length}
-use Rattle.dm_words.proofs.Names.{take, drop, get_or, refl, sym, ap, subst, ◌∙◌, arith, Bool, true, false, cond, ◌⊎◌}
-use Rattle.dm_words.proofs.Names.{inl, inr, nat_le, ◌&&◌, not, length-drop, at_drop_more, get_or-drop, take-suc}
-use Rattle.dm_words.proofs.Names.{nat_tests, Setting, Item, CodeSet, C40, Text, X12, Pairs, Waiting, never, set_values}
-use Rattle.dm_words.proofs.Names.{no_pairs, stay, leave, or_leave, going_from, going_pairs, row_pairs, parts_cost}
-use Rattle.dm_words.proofs.Names.{IsRightStep, part_values, is_empty, IsItemPushed}
+use Rattle.dm_words.proofs.Names.{◌≡◌, ℕ, zero, suc, ◌+◌, ◌-◌, ◌*◌, ◌/◌, ◌<◌, ◌≤◌, List, [], ◌∷◌, ◌++◌, length, take}
+use Rattle.dm_words.proofs.Names.{drop, get_or, refl, sym, ap, ◌∙◌, arith, Bool, true, false, cond, ◌⊎◌, inl, inr}
+use Rattle.dm_words.proofs.Names.{nat_le, ◌&&◌, not, length-drop, at_drop_more, get_or-drop, take-suc, nat_tests}
+use Rattle.dm_words.proofs.Names.{Setting, Item, CodeSet, C40, Text, X12, Pairs, Waiting, never, set_values, no_pairs}
+use Rattle.dm_words.proofs.Names.{stay, leave, or_leave, going_from, going_pairs, row_pairs, parts_cost, IsRightStep}
+use Rattle.dm_words.proofs.Names.{part_values, is_empty, IsItemPushed}
 use Rattle.dm_words.specs.inner.Costs.{Step, owed, row}
 use Rattle.dm_words.specs.inner.Written.{run_ends}
 use Rattle.dm_words.proofs.RunWritten.{pushed_lengths}
@@ -35,8 +35,7 @@ goes_on p cost zero words total next budget small goes = absurd (by_part p budge
 goes_on p cost (suc k) words total next budget small goes =
     let over = stay (suc k) next in
     let e : owed (length (part_values p)) over ≡ owed (length (part_values p) + suc k) next =
-    ap (owed (length (part_values p))) (stay_is (suc k) next (omega arith))
-    ∙ owed_values (suc k) (length (part_values p)) next in
+    cc (stay_is (suc k) next (omega arith), owed_values (suc k) (length (part_values p)) next) in
     let b : words + owed (length (part_values p)) over ≤ total = by_part p over budget goes in
     (omega arith, omega (arith, b, e)) where
       by_part : (p : Waiting) (over : Pairs) → words + owed (length (part_values p)) (or_leave cost over) ≤ total
@@ -52,21 +51,13 @@ pub leaves : (p : Waiting) (cost words total : ℕ) (over : Pairs)
     → is_empty p && nat_le (leave 1 cost) over.none ≡ true
     → words + leave 1 cost ≤ total
 unfolding owed
-leaves Waiting.Empty cost words total over b g = let le : leave 1 cost ≤ over.none =
-    grind (arith, nat_tests) in omega (arith, le, b)
-leaves (Waiting.One x) cost words total over b g = cc
-leaves (Waiting.Two x y) cost words total over b g = cc
+leaves p cost words total over h1 h2 = grind (arith, nat_tests)
 
 -- The costs of a run are those of going on, or of leaving.
 pub pairs_are : (setting : Setting) (set : CodeSet) (m : List Item) → row_pairs set (row setting m)
     ≡ or_leave (parts_cost setting m) (going_pairs set (going_from setting m))
 unfolding row
-pairs_are setting C40 [] = refl
-pairs_are setting Text [] = refl
-pairs_are setting X12 [] = refl
-pairs_are setting C40 (x ∷ m) = refl
-pairs_are setting Text (x ∷ m) = refl
-pairs_are setting X12 (x ∷ m) = refl
+pairs_are setting set m = grind (arith, nat_tests)
 
 -- The plan says whether a run ends.
 pub ends_are : (setting : Setting) (set : CodeSet) (m : List Item) (s : Step) → IsRightStep setting m s → run_ends set s
@@ -80,10 +71,7 @@ pub item_paid : (set : CodeSet) (p p' : Waiting) (k n words words' total : ℕ) 
     → words + owed (length (part_values p) + k) next ≤ total
     → length (part_values p) + k ≡ 3 * n + length (part_values p') → words' ≡ words + 2 * n
     → words' + owed (length (part_values p')) next ≤ total
-item_paid set p p' k n words words' total next budget e is =
-    let o : owed (length (part_values p) + k) next ≡ 2 * n + owed (length (part_values p')) next =
-    ap (λ (j : ℕ). owed j next) e ∙ owed_more n (length (part_values p')) next in
-    omega (arith, budget, o, is)
+item_paid set p p' k n words words' total next budget e is = grind (arith, owed, part_values, owed_more)
 
 -- Where a run goes on, the set has the item, and the run can pay for it.
 run_here : (setting : Setting) (set : CodeSet) (x : Item) (rest : List Item) (s : Step) (p : Waiting) (words total : ℕ)
@@ -146,10 +134,8 @@ run_at setting set m i d s p words total on right budget small is so =
     let some = run_some setting set (drop i m) s p words total right budget small goes in
     let lt : i < length m = omega (arith, some, length-drop i m) in
     let cons : drop i m ≡ get_or m i d ∷ drop (i + 1) m = at_drop_more (λ (l : List Item). l) m i d lt in
-    let h = run_here setting set (get_or m i d) (drop (i + 1) m) s p words total
-    (subst (λ (l : List Item). IsRightStep setting l s) cons right)
-    (subst (λ (l : List Item). words + owed (length (part_values p)) (row_pairs set (row setting l)) ≤ total) cons
-    budget) small goes in
+    let h = run_here setting set (get_or m i d) (drop (i + 1) m) s p words total (rw cons at right) (rw cons at budget)
+    small goes in
     record { there = lt; held = h.0; budget = h.1 } where
       by_bool : (b : Bool) → not b ≡ true → b ≡ false
       by_bool true e = cc
@@ -162,8 +148,7 @@ pub first_at : (setting : Setting) (set : CodeSet) (m : List Item) (i : ℕ) (d 
 unfolding owed
 first_at setting set m i d words total lt budget small =
     let cons : drop i m ≡ get_or m i d ∷ drop (i + 1) m = at_drop_more (λ (l : List Item). l) m i d lt in
-    let h = by_set set (get_or m i d) (drop (i + 1) m)
-    (subst (λ (l : List Item). words + owed 0 (going_pairs set (going_from setting l)) ≤ total) cons budget) in
+    let h = by_set set (get_or m i d) (drop (i + 1) m) (rw cons at budget) in
     record { there = lt; held = h.0; budget = h.1 } where
       by_count : (k : ℕ) (next : Pairs) → words + owed 0 (stay k next) ≤ total
           → (0 < k) × (words + owed (0 + k) next ≤ total)
@@ -181,10 +166,7 @@ first_at setting set m i d words total lt budget small =
 
 -- The codewords of an item fit.
 pub item_room : (n words total : ℕ) (p : Pairs) → words + owed n p ≤ total → words + 2 * (n / 3) ≤ total
-item_room n words total p b =
-    let e : n ≡ 3 * (n / 3) + n % 3 = omega arith in
-    let o : owed n p ≡ 2 * (n / 3) + owed (n % 3) p = ap (λ (k : ℕ). owed k p) e ∙ owed_more (n / 3) (n % 3) p in
-    omega (arith, b, o)
+item_room n words total p b = grind (arith, owed, owed_more)
 
 -- The budget after an item.
 pub after_item : (set : CodeSet) (x : Item) (p p' : Waiting) (old new : List ℕ) (total : ℕ) (next : Pairs)
@@ -201,11 +183,8 @@ pub one_more : (m : List Item) (from i : ℕ) (d : Item) → from ≤ i → i < 
 one_more m from i d le lt =
     let e : i + 1 - from ≡ suc (i - from) = omega (arith, le) in
     let at : from + (i - from) ≡ i = omega (arith, le) in
-    let here : get_or (drop from m) (i - from) d ≡ get_or m i d = get_or-drop from m (i - from) d
-    ∙ ap (λ (k : ℕ). get_or m k d) at in
-    ap (λ (y : Item). take (i - from) (drop from m) ++ y ∷ []) (sym here)
-    ∙ sym (take-suc (drop from m) (i - from) d (omega (arith, lt, le, length-drop from m)))
-    ∙ ap (λ (k : ℕ). take k (drop from m)) (sym e)
+    let here : get_or (drop from m) (i - from) d ≡ get_or m i d = cc (get_or-drop from m (i - from) d) in
+    cc ((take-suc (drop from m) (i - from) d (omega (arith, lt, le, length-drop from m))))
 
 -- Leaving a run.
 pub leave_at : (setting : Setting) (set : CodeSet) (m : List Item) (s : Step) (p : Waiting) (words total : ℕ)

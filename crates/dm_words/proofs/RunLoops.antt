@@ -1,6 +1,6 @@
 -- The loops that read the pairs and the items of a run.
-use Rattle.dm_words.proofs.Names.{◌≡◌, ℕ, ◌+◌, ◌-◌, ◌<◌, ◌≤◌, List, [], ◌∷◌, ◌++◌, length, take, drop, refl, sym, ap}
-use Rattle.dm_words.proofs.Names.{◌∙◌, append_assoc, arith, Option, All, append-nil, length-drop, drop-drop, take_all}
+use Rattle.dm_words.proofs.Names.{◌≡◌, ℕ, ◌+◌, ◌-◌, ◌<◌, ◌≤◌, List, [], ◌∷◌, ◌++◌, length, take, drop, sym, ap, ◌∙◌}
+use Rattle.dm_words.proofs.Names.{append_assoc, arith, Option, All, append-nil, length-drop, drop-drop, take_all}
 use Rattle.dm_words.proofs.Names.{All-drop, All-append, IsRunValue, CodeSet, PairsEnd, Extent, Item, WordFault, Takes}
 use Rattle.dm_words.proofs.Names.{Stops, Walked, and_before, flat, first_pair, first_spelling, pairs_in, items_in}
 use Rattle.dm_words.proofs.Names.{run_fault, run_unless, end_length}
@@ -37,9 +37,8 @@ pairs_turn words at a b d old new total fit le e is so_far =
     walk_all-takes first_pair PairRight IsBytes stop.SymbolEnd pair_sound at (drop at words) 2 (a ∷ b ∷ d ∷ [])
     (IsBytes-drop at words fit) e in
     let rest : drop 2 (drop at words) ≡ drop (at + 2) words = drop-drop 2 at words in
-    let two : pairs_from at (drop at words)
-    ≡ and_before (a ∷ b ∷ d ∷ []) (pairs_from (at + 2) (drop (at + 2) words)) = one
-    ∙ ap (λ (ws : List ℕ). and_before (a ∷ b ∷ d ∷ []) (pairs_from (at + 2) ws)) rest in
+    let two : pairs_from at (drop at words) ≡ and_before (a ∷ b ∷ d ∷ []) (pairs_from (at + 2) (drop (at + 2) words)) =
+    cc in
     let before = rw two at so_far in
     let joined : old ++ ((a ∷ b ∷ d ∷ []) ++ flat (pairs_from (at + 2) (drop (at + 2) words)).taken) ≡ new
     ++ flat (pairs_from (at + 2) (drop (at + 2) words)).taken = rw is (simp append_assoc) in (
@@ -109,12 +108,7 @@ pub run_is : (extent : Extent) (set : CodeSet) (place : ℕ) (words values : Lis
     → run_behind extent set place (drop place words)
     ≡ run_unless f (1 + count + end_length t) (items_in set values).taken
 unfolding run_behind
-run_is extent set place words values count t read k f pairs r kk e =
-    let all : take (length words - place) (drop place words)
-    ≡ drop place words = take_all _ (drop place words) (omega (arith, length-drop place words)) in
-    let here : (values ≡ flat (pairs_in (drop place words)).taken) × (count
-    ≡ (pairs_in (drop place words)).place) × (t ≡ (pairs_in (drop place words)).why) = rw all at pairs in
-    rw (← e, r, kk, here.1, here.2, here.0) refl
+run_is extent set place words values count t read k f pairs r kk e = grind (arith, take_all, length-drop, pairs_in)
 
 -- The number at an index of numbers below 40 is below 40.
 pub small_at : (values more : List ℕ) (at v : ℕ) → All IsRunValue values → drop at values ≡ v ∷ more → v < 40

@@ -67,9 +67,8 @@ one_pushed old waiting values words words' Waiting.Empty p' v lt a i = record {
 one_pushed old waiting values words words' (Waiting.One x) p' v lt a i = record {
   pairs = a.pairs;
   each = a.each;
-  values_are = sym (append_assoc waiting values (v ∷ [])) ∙ ap (λ (l : List ℕ). l ++ v ∷ []) a.values_are
-      ∙ append_assoc (gathered a.pairs) (x ∷ []) (v ∷ [])
-      ∙ ap (λ (q : Waiting). gathered a.pairs ++ part_values q) (sym i.0);
+  values_are =
+      cc (append_assoc waiting values (v ∷ []), a.values_are, append_assoc (gathered a.pairs) (x ∷ []) (v ∷ []), i.0);
   words_are = i.1 ∙ a.words_are;
   small = subst IsSmallPart (sym i.0) (a.small, lt);
 }
@@ -82,8 +81,7 @@ one_pushed old waiting values words words' (Waiting.Two x y) p' v lt a i =
           ∙ append_assoc (gathered a.pairs) (x ∷ y ∷ []) (v ∷ []) ∙ sym (gathered-last a.pairs piece)
           ∙ sym (append-nil (gathered (a.pairs ++ piece ∷ [])))
           ∙ ap (λ (q : Waiting). gathered (a.pairs ++ piece ∷ []) ++ part_values q) (sym i.0);
-      words_are = i.1.2 ∙ ap (λ (l : List ℕ). l ++ i.1.0) a.words_are ∙ append_assoc old (spelled a.pairs) i.1.0
-          ∙ ap (λ (l : List ℕ). old ++ l) (sym (spelled-last a.pairs piece));
+      words_are = cc (i.1.2, a.words_are, append_assoc old (spelled a.pairs) i.1.0, spelled-last a.pairs piece);
       small = subst IsSmallPart (sym i.0) tt;
     }
 
@@ -109,8 +107,7 @@ pub next_pushed : (old waiting values words words' : List ℕ) (p p' : Waiting) 
 next_pushed old waiting values words words' p p' i v d lt is small a push =
     let more : take i values ++ v ∷ [] ≡ take (i + 1) values = ap (λ (y : ℕ). take i values ++ y ∷ []) is
     ∙ sym (rw add-one (take-suc values i d lt)) in
-    subst (λ (l : List ℕ). ArePushed old waiting l words' p') more
-    (one_pushed old waiting (take i values) words words' p p' v small a push)
+    rw more at (one_pushed old waiting (take i values) words words' p p' v small a push)
 
 -- More values are pushed.
 pushed_more : (old vs ws words words' : List ℕ) (p p' : Waiting) → ArePushed old [] vs words p
@@ -122,9 +119,8 @@ pushed_more old vs ws words words' p p' a b = record {
       ∙ ap (λ (l : List ℕ). gathered a.pairs ++ l) b.values_are
       ∙ sym (append_assoc (gathered a.pairs) (gathered b.pairs) (part_values p'))
       ∙ ap (λ (l : List ℕ). l ++ part_values p') (sym (gathered-append a.pairs b.pairs));
-  words_are = b.words_are ∙ ap (λ (l : List ℕ). l ++ spelled b.pairs) a.words_are
-      ∙ append_assoc old (spelled a.pairs) (spelled b.pairs)
-      ∙ ap (λ (l : List ℕ). old ++ l) (sym (spelled-append a.pairs b.pairs));
+  words_are = cc
+      (b.words_are, a.words_are, append_assoc old (spelled a.pairs) (spelled b.pairs), spelled-append a.pairs b.pairs);
   small = b.small;
 }
 
@@ -146,8 +142,7 @@ run_begun set old new l is e = record {
   spellings = [];
   each = tt;
   items_are = refl;
-  pushed = subst (λ (w : List ℕ). ArePushed (old ++ l ∷ []) [] [] w Waiting.Empty) (sym e)
-      (none_pushed (old ++ l ∷ []) Waiting.Empty tt);
+  pushed = rw e (none_pushed (old ++ l ∷ []) Waiting.Empty tt);
 }
 
 -- One more item of a run.
@@ -163,8 +158,7 @@ run_more set old words words' p p' items x r i =
       spellings = r.spellings ++ piece ∷ [];
       each = all-append (λ q. IsSpelling set q.words q.what) r.spellings (piece ∷ []) r.each (i.1, tt);
       items_are = ap (λ (l : List Item). l ++ x ∷ []) r.items_are ∙ sym (whats-append r.spellings (piece ∷ []));
-      pushed = subst (λ (v : List ℕ). ArePushed (old ++ r.latch ∷ []) [] v words' p') (sym more)
-          (pushed_more (old ++ r.latch ∷ []) (spelled r.spellings) i.0 words words' p p' r.pushed i.2);
+      pushed = rw more (pushed_more (old ++ r.latch ∷ []) (spelled r.spellings) i.0 words words' p p' r.pushed i.2);
     }
 
 -- A run that went on has some items.
@@ -199,8 +193,7 @@ run_whole set old words items r = (
         each = r.each;
         filler = [];
         ended = filler (nothing refl);
-        whole = sym (append-nil (gathered r.pushed.pairs)) ∙ sym r.pushed.values_are
-            ∙ sym (append-nil (spelled r.spellings));
+        whole = cc (append-nil (gathered r.pushed.pairs), r.pushed.values_are, append-nil (spelled r.spellings));
         items_are = r.items_are;
       };
     },
@@ -245,11 +238,9 @@ written_bare extent set total old words items Waiting.Empty e some few r =
       begins = latch_begins set r.latch w.0 r.is_latch;
       whole = w.1;
       right = λ after fills first. run set
-          (subst (λ (l : List ℕ). IsWholeRun extent set (r.latch ∷ l) after items) (append-nil w.0)
-          (w.2 extent [] after (by_after after (omega (arith, fills, few)) first))).0;
+          (rw (append-nil w.0) at (w.2 extent [] after (by_after after (omega (arith, fills, few)) first))).0;
       plain = λ after fills first. (
-          let q = subst (λ (l : List ℕ). IsWholeRun Usual set (r.latch ∷ l) after items) (append-nil w.0)
-          (w.2 Usual [] after (by_after after (omega (arith, fills, few)) first)) in
+          let q = rw (append-nil w.0) at (w.2 Usual [] after (by_after after (omega (arith, fills, few)) first)) in
           plainly.run set q.0 q.1 some
           );
     } where

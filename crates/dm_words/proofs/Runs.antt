@@ -182,8 +182,7 @@ module _ (extent : Extent) (set : CodeSet) (place w : ℕ) (is_latch : codeword_
       ++ more =
       ap (λ (r : List ℕ). w ∷ r) (p.whole ∙ ap (λ (r : List ℕ). spelled p.pieces ++ r) e
       ∙ sym (append_assoc (spelled p.pieces) end more)) in
-      let c = cut_behind_prefix (w ∷ words) prefix more n whole
-      (omega (arith, len, length-append (spelled p.pieces) end)) in
+      let c = cut_behind_prefix _ prefix more n whole (omega (arith, len, length-append (spelled p.pieces) end)) in
       let values : AreValues extent set (gathered p.pieces) vw.taken =
       record {
         spellings = v.pieces;
@@ -242,9 +241,8 @@ module _ (extent : Extent) (set : CodeSet) (place w : ℕ) (is_latch : codeword_
         each_spelling = spellings_right;
         rest = v.after;
         values = joined_values;
-        is_fault =
-            fault_is extent set place (length (spelled p.pieces)) (length (spelled v.pieces)) pw.why vw.why v.after
-            p.after f rest_is stop_is same;
+        is_fault = fault_is extent set place (length (spelled p.pieces)) (length (spelled v.pieces)) _ vw.why v.after _
+            f rest_is stop_is same;
       }
 
 -- A run that is found is a run, and a faulty one is faulty.
@@ -334,8 +332,7 @@ run_complete extent set place words after items r =
     let t = end_found r.end after r.ended in
     let d = dropped_found extent set place (length (spelled r.pairs)) (length (spelled r.values.spellings))
     r.values.filler t.0 r.values.ended t.3 in
-    let again =
-    run_again extent set place r.pairs (r.end ++ after) t.0 r.values.spellings r.values.filler d.kind r.each t.1
+    let again = run_again extent set place r.pairs _ _ r.values.spellings r.values.filler d.kind r.each t.1
     r.values.each d.left_so r.values.whole in
     let len : 1 + length (spelled r.pairs) + end_length t.0
     ≡ length words = omega (arith, t.2, ap length r.whole, length-append (spelled r.pairs) r.end) in
@@ -343,8 +340,7 @@ run_complete extent set place words after items r =
       record {
         latch = r.latch;
         others = spelled r.pairs ++ (r.end ++ after);
-        whole = ap (λ (x : List ℕ). x ++ after) r.whole
-            ∙ ap (λ (x : List ℕ). r.latch ∷ x) (append_assoc (spelled r.pairs) r.end after);
+        whole = cc (r.whole, append_assoc (spelled r.pairs) r.end after);
         is_latch = r.is_latch;
         found = again ∙ rw (none_there, len, r.values.items_are) refl;
       },
@@ -419,8 +415,7 @@ fault_found extent set place values rest n words f (unfinished usual r e is) =
       kind = left.Waiting;
       stops = rw e.whole t.1;
       left_so = r;
-      found =
-          fault_unfinished extent place n values t.0 usual t.3 ∙ ap Some (sym is);
+      found = cc (fault_unfinished extent place n values t.0 usual t.3);
     }
 
 -- A faulty run that is a prefix is found.

@@ -1,10 +1,9 @@
 -- How many items and marks codewords say: at most two items for each, in the wide extent seven more, and a mark for
 -- each two.
 use Rattle.dm_words.proofs.Names.{◌≡◌, ℕ, zero, suc, ◌+◌, ◌*◌, ◌≤◌, List, [], ◌∷◌, ◌++◌, length, ap, ◌∙◌, arith}
-use Rattle.dm_words.proofs.Names.{length-append, ◌⊎◌, inl, inr, Extent, Usual, Wide, Item, Opening, Piece, spelled}
-use Rattle.dm_words.proofs.Names.{whats, AreJoined, ContentView, Said, IsContentPart, part, mark, said_items}
-use Rattle.dm_words.proofs.Names.{said_marks, IsOpening, headed, framed, plain, opening_items, closing_items, Says}
-use Rattle.dm_words.proofs.Names.{as_content, most_spelled, Spells}
+use Rattle.dm_words.proofs.Names.{length-append, ◌⊎◌, Extent, Usual, Wide, Item, Opening, Piece, spelled, whats}
+use Rattle.dm_words.proofs.Names.{AreJoined, ContentView, Said, IsContentPart, part, mark, said_items, said_marks}
+use Rattle.dm_words.proofs.Names.{IsOpening, opening_items, closing_items, Says, as_content, most_spelled, Spells}
 use Rattle.dm_words.proofs.ContentLoops.{designator_some}
 use Rattle.dm_words.proofs.ContentParts.{not_wide}
 use Rattle.dm_words.proofs.Parts.{room_of}
@@ -41,25 +40,14 @@ joined_few extent place before (p ∷ ps) after h =
 -- more.
 within_most : (extent : Extent) (count n : ℕ) → (n ≤ 2 * count) ⊎ ((extent ≡ Wide) × (1 ≤ count) × (n ≤ 2 * count + 7))
     → n ≤ most_spelled extent count
-within_most Usual count n (inl few) = few
-within_most Usual count n (inr few) = absurd (not_wide few.0)
-within_most Wide zero n (inl few) = few
-within_most Wide zero n (inr few) = absurd (omega (arith, few.1))
-within_most Wide (suc count) n (inl few) = omega (arith, few)
-within_most Wide (suc count) n (inr few) = few.2
+within_most extent count n h1 = grind (arith, not_wide)
 
 -- What stands before and behind the parts is few items for the codewords of the opening.
 opening_few : (extent : Extent) (first more : List ℕ) (opening : Opening) (count n : ℕ)
     → IsOpening extent first more opening → length first ≤ count
     → n + 2 * length first ≤ length (opening_items opening) + length (closing_items opening) + 2 * count
     → n ≤ most_spelled extent count
-opening_few extent first more opening count n (headed h wide s is) le few =
-    within_most extent count n (inl (omega (arith, rw is at few)))
-opening_few extent first more opening count n (framed digit wide f is) le few =
-    let one : 1 ≤ length first = omega (arith, ap length f.whole, length-append f.runs (f.word ∷ [])) in
-    within_most extent count n (inr (wide, omega (arith, one, le), omega (arith, one, rw is at few)))
-opening_few extent first more opening count n (plain none no_head no_frame is) le few =
-    within_most extent count n (inl (omega (arith, rw is at few)))
+opening_few extent first more opening count n h1 h2 h3 = grind (arith, within_most, length-append)
 
 -- Codewords that say a content say few items and marks.
 pub said_counts : (extent : Extent) (words : List ℕ) (l : ContentView) → Says extent words l

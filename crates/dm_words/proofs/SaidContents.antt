@@ -51,9 +51,7 @@ marks_right before (Items items ∷ said) h =
     let count : (before + length items) + length (said_items said) ≡ before + length (items ++ said_items said) =
     omega (arith, length-append items (said_items said)) in
     lower (before + length items) before (before + length (items ++ said_items said))
-    (said_marks (before + length items) said)
-    (subst (λ (k : ℕ). AreMarks (before + length items) k (said_marks (before + length items) said)) count
-    (marks_right (before + length items) said h.1)) (omega arith)
+    (said_marks (before + length items) said) (rw count at (marks_right (before + length items) said h.1)) (omega arith)
 marks_right before (Number number ∷ said) h = (omega arith, h.0, marks_right before said h.1)
 
 -- The marks that parts of a content say are in order.
@@ -111,8 +109,7 @@ said_is_content extent words l s =
     let right =
     subst (AllByRecursion IsRight) (sym s.parts.said_are)
     (parts_right extent s.place s.parts.parts s.parts.after s.parts.joined) in
-    subst IsContent (sym s.content_is)
-    (said_right s.opening s.said (opening_right extent s.opened.first s.more s.opening s.opened.is_opening) right)
+    subst IsContent (sym s.content_is) (said_right _ s.said (opening_right _ _ _ _ s.opened.is_opening) right)
 
 -- What they spell is a message.
 pub spelled_is_message : (extent : Extent) (words : List ℕ) (m : List Item) → Spells extent words m → IsMessage m

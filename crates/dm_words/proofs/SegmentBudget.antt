@@ -89,13 +89,10 @@ module _ (setting : Setting) where
       let cons : drop i m ≡ get_or m i d ∷ drop (i + 1) m = at_drop_more (λ (l : List Item). l) m i d lt in
       let one : 1 ≡ i + 1 - i = omega arith in
       let f = first_byte (drop i m) (omega (arith, lt, length-drop i m)) small in
-      let same : Byte f.0 ∷ f.1 ≡ get_or m i d ∷ drop (i + 1) m = sym f.2 ∙ cons in
       let is : drop i m ≡ Byte f.0 ∷ drop (i + 1) m = f.2 ∙ ap (λ (l : List Item). Byte f.0 ∷ l) (cc) in (
         subst (λ (k : ℕ). IsSegmentSoFar (drop i m) (drop (i + 1) m) k) one
-            (subst (λ (l : List Item). IsSegmentSoFar l (drop (i + 1) m) 1) (sym is)
-            (segment_begun f.0 (drop (i + 1) m))),
-        subst (λ (k : ℕ). has_fnc1 (take k (drop i m))
-            ≡ false) one (subst (λ (l : List Item). has_fnc1 (take 1 l) ≡ false) (sym is) refl),
+            (rw (sym is) at (segment_begun f.0 (drop (i + 1) m))),
+        rw one at (subst (λ (l : List Item). has_fnc1 (take 1 l) ≡ false) (sym is) refl),
       )
 
   -- The plan says whether a segment ends.
@@ -149,10 +146,8 @@ module _ (setting : Setting) where
       record {
         there = there;
         so_far = subst (λ (n : ℕ). IsSegmentSoFar (drop from m) (drop (i + 1) m) n) k
-            (segment_more (drop from m) next.0 (i - from) (drop (i + 1) m)
-            (subst (λ (l : List Item). IsSegmentSoFar (drop from m) l (i - from)) is so_far) (rw is at lt));
-        bytes = subst (λ (l : List Item). has_fnc1 l
-            ≡ false) more (byte_more (take (i - from) (drop from m)) next.0 bytes);
+            (segment_more (drop from m) next.0 (i - from) (drop (i + 1) m) (rw is at so_far) (rw is at lt));
+        bytes = rw more at (byte_more (take (i - from) (drop from m)) next.0 bytes);
       } where
         less : (t : Bool) → nat_le (parts_cost setting (drop i m)) (bytes_cost (drop i m)) ≡ t → t ≡ false
             → bytes_cost (drop i m) < parts_cost setting (drop i m)
@@ -185,8 +180,7 @@ module _ (setting : Setting) where
 
         here : segment_cost (bytes_cost (drop from m)) (near_of (drop from m))
             ≡ 1 + length (length_numbers (i - from)) + (i - from) + parts_cost setting (drop i m)
-        here = ap (λ (n : ℕ). segment_cost (bytes_cost (drop from m)) n) (so_far.ended le)
-            ∙ by_test (nat_le (i - from) 249) refl
+        here = cc (so_far.ended le, by_test (nat_le (i - from) 249) refl)
 
   -- A segment up to the end of the symbol has all items, and nothing follows them.
   pub rest_is : (m : List Item) → (going_from setting m).segment.rest < never

@@ -41,15 +41,13 @@ bytes_more words start i b first old new lt is so_far e =
     ∙ ap (plain_at (start + i + 1)) (get_or-drop start words i 0) ∙ sym is in
     let more : take (i + 1) vs ≡ take i vs
     ++ b ∷ [] = rw add-one (take-suc vs i 0 within ∙ ap (λ (k : ℕ). take i vs ++ k ∷ []) value) in
-    e ∙ ap (λ (r : List Item). r ++ Byte b ∷ []) so_far ∙ append_assoc first (byte_items (take i vs)) (Byte b ∷ [])
-    ∙ ap (λ (r : List Item). first ++ r) (sym (byte_items-append (take i vs) (b ∷ [])) ∙ ap byte_items (sym more))
+    cc (append_assoc first (byte_items (take i vs)) (Byte b ∷ []), byte_items-append (take i vs) (b ∷ []))
 
 -- The values from an index on begin with the value there.
 pub plain_first : (words : List ℕ) (place k d : ℕ) → k < length words → d ≡ plain_at place (get_or words k 0)
     → plain place (drop k words) ≡ d ∷ plain (place + 1) (drop (k + 1) words)
 plain_first words place k d lt is =
-    let cut : drop k words ≡ get_or words k 0 ∷ drop (k + 1) words = drop-cons words k 0 lt
-    ∙ ap (λ (j : ℕ). get_or words k 0 ∷ drop j words) (sym (add-one k)) in
+    let cut : drop k words ≡ get_or words k 0 ∷ drop (k + 1) words = cc (drop-cons words k 0 lt, add-one k) in
     ap (plain place) cut ∙ ap (λ (v : ℕ). v ∷ plain (place + 1) (drop (k + 1) words)) (sym is)
 
 -- A length field and as many bytes as it says are taken.
@@ -58,14 +56,12 @@ pub segment_takes : (place : ℕ) (field values : List ℕ) (n : ℕ) → n ≤ 
     ≡ Takes (1 + length field + n) (byte_items (take n values))
 segment_takes place field values n le counted =
     let len : length (take n values) ≡ n = omega (arith, length-take n values) in
-    let regrouped : (field ++ take n values) ++ drop n values ≡ field
-    ++ values = append_assoc field (take n values) (drop n values)
-    ∙ ap (λ (r : List ℕ). field ++ r) (take-append-drop n values) in
+    let regrouped : (field ++ take n values) ++ drop n values ≡ field ++ values =
+    cc (append_assoc field (take n values) (drop n values), take-append-drop n values) in
     let again =
     segment_again place field (take n values) (drop n values)
     (subst (λ (k : ℕ). IsLengthField field k (drop n values)) (sym len) (counted (drop n values))) in
-    ap (segment_behind place) (sym regrouped) ∙ again
-    ∙ ap (λ (k : ℕ). Takes (1 + length field + k) (byte_items (take n values))) len
+    cc
 
 -- Equal numbers make equal pairs.
 pair_path : {a b x y : ℕ} → a ≡ x → b ≡ y → (let p : ℕ × ℕ = (a, b) in p) ≡ (x, y)

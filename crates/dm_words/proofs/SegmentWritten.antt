@@ -44,29 +44,14 @@ field_written extent total old latched counted new field m some fit none latch c
 -- The bytes take a codeword each.
 pub bytes_length : (counted new : List ℕ) (m : List Item) → new ≡ counted
     ++ written (length counted + 1) (map byte_of m) → length new ≡ length counted + length m
-bytes_length counted new m all =
-    omega (
-      arith,
-      ap length all,
-      length-append counted (written (length counted + 1) (map byte_of m)),
-      length-written (length counted + 1) (map byte_of m),
-      length-map m byte_of,
-    )
+bytes_length counted new m all = grind (arith, length-append, byte_of, length-written, length-map)
 
 -- So many codewords were written.
 pub field_length : (old latched counted new field : List ℕ) (m : List Item) → latched ≡ old ++ 231 ∷ [] → counted
     ≡ latched ++ written (length latched + 1) field → new ≡ counted ++ written (length counted + 1) (map byte_of m)
     → length new ≡ length old + 1 + length field + length m
 field_length old latched counted new field m latch count all =
-    omega (
-      arith,
-      ap length latch,
-      length-append old (231 ∷ []),
-      ap length count,
-      length-append latched (written (length latched + 1) field),
-      length-written (length latched + 1) field,
-      bytes_length counted new m all,
-    )
+    grind (arith, length-append, length-written, bytes_length)
 
 -- A field that says all bytes up to the end of the symbol.
 pub field_to_end : (total count : ℕ) (old new : List ℕ) → length old + 1 + count ≡ total → new ≡ old

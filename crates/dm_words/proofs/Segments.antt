@@ -144,9 +144,7 @@ module _ (place w : ℕ) (is_latch : codeword_of w ≡ Some codeword.Base256) (w
       let le : n ≤ length values = ltb-false _ _ eb in
       let len : length (take n values) ≡ n = omega (arith, length-take n values) in
       let regrouped : words ≡ written (place + 1) ((field ++ take n values) ++ drop n values) =
-      e ∙ ap (λ (r : List ℕ). written (place + 1) r)
-      (ap (λ (r : List ℕ). field ++ r) (sym (take-append-drop n values))
-      ∙ sym (append_assoc field (take n values) (drop n values))) in
+      cc (take-append-drop n values, append_assoc field (take n values) (drop n values)) in
       taken field (take n values) (drop n values) (1 + length field + n) regrouped (AreBytes-take n values fit)
       (good (length (take n values)) _ len) (omega (arith, len))
 
@@ -206,45 +204,14 @@ segment_judged place w words is_latch fit =
 pub segment_again : (place : ℕ) (field bytes more : List ℕ) → IsLengthField field (length bytes) more
     → segment_behind place ((field ++ bytes) ++ more) ≡ Takes (1 + length field + length bytes) (byte_items bytes)
 unfolding segment_behind
-segment_again place field bytes more (to_the_end f m) = rw (f, m, append-nil bytes) refl
-segment_again place field bytes more (short d pos le f len) =
-    let a : eqb d 0 ≡ false = grind (arith, nat_tests) in
-    let b : ltb 249 d ≡ false = grind (arith, nat_tests) in
-    let c : ltb (length (bytes ++ more)) d ≡ false = le-ltb _ _ (omega (arith, len, length-append bytes more)) in
-    rw (f, len, a, b, c, take_at bytes more d len) refl
-segment_again place field bytes more (long d e big small le f len) =
-    let a : eqb d 0 ≡ false = grind (arith, nat_tests) in
-    let b : ltb 249 d ≡ true = grind (arith, nat_tests) in
-    let b2 : ltb 249 e ≡ false = grind (arith, nat_tests) in
-    let c : ltb (length (bytes ++ more)) (long_count d e)
-    ≡ false = le-ltb _ _ (omega (arith, len, length-append bytes more)) in
-    rw (f, len, a, b, b2, c, take_at bytes more (long_count d e) len) refl
+segment_again place field bytes more h1 =
+    grind (arith, nat_tests, to_the_end, append-nil, le-ltb, length-append, take_at, long_count)
 
 -- A bad length is found.
 pub bad_again : (place : ℕ) (values : List ℕ) → IsBadLength values → segment_behind place values
     ≡ Stops (Some (fault.Length place))
 unfolding segment_behind
-bad_again place values (missing e) = rw e refl
-bad_again place values (past_short d more le e lt) =
-    let a : eqb d 0 ≡ false = (let pos : 0 < d = omega arith in grind (arith, nat_tests)) in
-    let b : ltb 249 d ≡ false = grind (arith, nat_tests) in
-    let c : ltb (length more) d ≡ true = grind (arith, nat_tests) in
-    rw (e, a, b, c) refl
-bad_again place values (no_second d big e) =
-    let a : eqb d 0 ≡ false = (let pos : 0 < d = omega arith in grind (arith, nat_tests)) in
-    let b : ltb 249 d ≡ true = grind (arith, nat_tests) in
-    rw (e, a, b) refl
-bad_again place values (wrong_second d f more big wrong e) =
-    let a : eqb d 0 ≡ false = (let pos : 0 < d = omega arith in grind (arith, nat_tests)) in
-    let b : ltb 249 d ≡ true = grind (arith, nat_tests) in
-    let c : ltb 249 f ≡ true = grind (arith, nat_tests) in
-    rw (e, a, b, c) refl
-bad_again place values (past_long d f more big le e lt) =
-    let a : eqb d 0 ≡ false = (let pos : 0 < d = omega arith in grind (arith, nat_tests)) in
-    let b : ltb 249 d ≡ true = grind (arith, nat_tests) in
-    let c : ltb 249 f ≡ false = grind (arith, nat_tests) in
-    let g : ltb (length more) (long_count d f) ≡ true = grind (arith, nat_tests) in
-    rw (e, a, b, c, g) refl
+bad_again place values h1 = grind (arith, nat_tests, past_short, no_second, wrong_second, past_long, long_count)
 
 -- The words begin with the latch of a segment, and this is found behind it.
 pub record SegmentFound (place : ℕ) (words : List ℕ) (step : Step (List Item) (Option WordFault)) : Type 0 where
@@ -259,9 +226,7 @@ plain-append : (place : ℕ) (vs ws : List ℕ) → AreBytes vs → plain place 
     ++ plain (place + length vs) ws
 plain-append place [] ws fit = rw add-zero refl
 plain-append place (v ∷ vs) ws fit =
-    let m = random_small place in
-    let at : place + 1 + length vs ≡ place + suc (length vs) = omega arith in
-    rw (random_goes v (random_at place) fit.0 m.0 m.1, plain-append (place + 1) vs ws fit.1, at) refl
+    grind (arith, random_small, random_goes, random_at, plain-append (place + 1) vs ws fit.1)
 
 -- Length numbers are 0 to 255.
 field_fits : (field : List ℕ) (count : ℕ) (after : List ℕ) → IsLengthField field count after → AreBytes field
@@ -290,9 +255,7 @@ segment_complete place words after items s =
       length-written (place + 1) (s.field ++ s.bytes),
       length-append s.field s.bytes,
     ) in
-    let again =
-    segment_again place s.field s.bytes (plain q after)
-    (field_before q s.field (length s.bytes) after s.counted) in (
+    let again = segment_again place _ s.bytes _ (field_before q _ _ _ s.counted) in (
       record {
         latch = s.latch;
         others = written (place + 1) (s.field ++ s.bytes) ++ after;
@@ -323,12 +286,4 @@ byte_items-length (b ∷ bs) = ap suc (byte_items-length bs)
 -- A segment has at most two items for each word.
 pub segment_room : (place : ℕ) (words after : List ℕ) (items : List Item) → IsSegment place words after items
     → length items ≤ 2 * length words
-segment_room place words after items s =
-    omega (
-      arith,
-      ap length s.items_are,
-      byte_items-length s.bytes,
-      ap length s.whole,
-      length-written (place + 1) (s.field ++ s.bytes),
-      length-append s.field s.bytes,
-    )
+segment_room place words after items s = grind (arith, byte_items-length, length-written, length-append)

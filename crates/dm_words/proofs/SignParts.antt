@@ -14,8 +14,7 @@ no_sign : (old new part : List ℕ) (items left : List Item) → sign_words item
     → PassesSign old new items left
 no_sign old new part items left none is after k = (
   part ++ after,
-  ap (λ (l : List ℕ). l ++ after) is ∙ append_assoc old part after
-      ∙ ap (λ (s : List ℕ). old ++ (s ++ (part ++ after))) (sym none),
+  cc (append_assoc old part after),
 )
 
 -- One codeword stands before FNC1, which is written then.
@@ -133,14 +132,11 @@ pub two_passes : (m : List Item) (i : ℕ) (d : Item) (old new : List ℕ) → i
 two_passes m i d old new second dx dy word is_word is =
     let two : i + 1 + 1 ≡ i + 2 = omega arith in
     let next : drop (i + 1) m ≡ get_or m (i + 1) d ∷ drop (i + 2) m =
-    at_drop_more (λ (l : List Item). l) m (i + 1) d second
-    ∙ ap (λ (k : ℕ). get_or m (i + 1) d ∷ drop k m) two in
+    cc (at_drop_more (λ (l : List Item). l) m (i + 1) d second) in
     let here : drop i m ≡ get_or m i d ∷ drop (i + 1) m =
     at_drop_more (λ (l : List Item). l) m i d (omega (arith, second)) in
-    subst (λ (l : List Item). PassesSign old new l (drop (i + 2) m))
-    (sym (here ∙ ap (λ (l : List Item). get_or m i d ∷ l) next))
-    (two_passes_here (get_or m i d) (get_or m (i + 1) d) (drop (i + 2) m) old new dx dy
-    (is ∙ ap (λ (w : ℕ). old ++ w ∷ []) is_word))
+    rw (sym (here ∙ ap (λ (l : List Item). get_or m i d ∷ l) next)) at (two_passes_here (get_or m i d)
+    (get_or m (i + 1) d) (drop (i + 2) m) old new dx dy (is ∙ ap (λ (w : ℕ). old ++ w ∷ []) is_word))
 
 -- ---- the whole
 
@@ -148,14 +144,11 @@ two_passes m i d old new second dx dy word is_word is =
 pub passes_on : (base old new part : List ℕ) (items left more : List Item) → new ≡ old ++ part
     → PassesSign base old items left → PassesSign old new left more → PassesSign base new items more
 passes_on base old new part items left more is before next after k =
-    let all : new ++ after ≡ old ++ (part ++ after) =
-    ap (λ (l : List ℕ). l ++ after) is ∙ append_assoc old part after in
-    subst (λ (l : List ℕ). KeepsSign base l items) (sym all)
-    (before (part ++ after) (subst (λ (l : List ℕ). KeepsSign old l left) all (next after k)))
+    let all : new ++ after ≡ old ++ (part ++ after) = cc (append_assoc old part after) in
+    subst (λ (l : List ℕ). KeepsSign base l items) (sym all) (before (part ++ after) (rw all at (next after k)))
 
 -- At the end it is kept.
 pub passes_all : (base new : List ℕ) (items left : List Item) → left ≡ [] → PassesSign base new items left
     → KeepsSign base new items
 passes_all base new items left none passes =
-    subst (λ (l : List ℕ). KeepsSign base l items) (append-nil new)
-    (passes [] (subst (λ (l : List Item). KeepsSign new (new ++ []) l) (sym none) ([], refl)))
+    rw (append-nil new) at (passes [] (subst (λ (l : List Item). KeepsSign new (new ++ []) l) (sym none) ([], refl)))

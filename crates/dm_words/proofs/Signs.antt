@@ -11,7 +11,7 @@ use Rattle.dm_words.specs.declared.codeword.Codeword.TheVariants as codeword
 use Rattle.dm_words.specs.Plain.{part, mark}
 use Rattle.dm_words.specs.Plain as plainly
 use Rattle.dm_words.specs.Parts.{nothing}
-use Rattle.dm_words.proofs.AsciiWords.{character_is, digits_are, character_of, digits_of}
+use Rattle.dm_words.proofs.AsciiWords.{character_is, character_of, digits_of}
 use Rattle.dm_words.proofs.Fnc1Places.{other_word}
 use Rattle.dm_words.proofs.Runs.{pairs_room}
 use Rattle.dm_words.proofs.SpellingCounts.{spelling_count, held}
@@ -83,7 +83,6 @@ unit_fnc1 words more items (digits w n k e i) after is =
     absurd (let g : Some (codeword.Digits n) ≡ Some codeword.Fnc1 = sym k ∙ ap codeword_of same in cc)
 unit_fnc1 words more items (fnc1 w k e i) after is = subst BeginsFnc1 (sym i) tt
 unit_fnc1 words more items (raised s w b k l e i) after is =
-    let f : s ∷ w ∷ after ≡ 232 ∷ more = sym (ap (λ (l : List ℕ). l ++ after) e) ∙ is in
     let same : s ≡ 232 = cc in
     absurd (let g : Some codeword.UpperShift ≡ Some codeword.Fnc1 = sym k ∙ ap codeword_of same in cc)
 
@@ -91,9 +90,7 @@ unit_fnc1 words more items (raised s w b k l e i) after is =
 not_fnc1 : (w : ℕ) (k : Codeword) (words rest after more : List ℕ) → codeword_of w ≡ Some k
     → (k ≡ codeword.Fnc1 → ⊥) → words ≡ w ∷ rest → words ++ after ≡ 232 ∷ more → ⊥
 not_fnc1 w k words rest after more is other e whole =
-    let f : w ∷ (rest ++ after) ≡ 232 ∷ more = sym (ap (λ (l : List ℕ). l ++ after) e) ∙ whole in
     let same : w ≡ 232 = cc in
-    let g : Some k ≡ Some codeword.Fnc1 = sym is ∙ ap codeword_of same in
     let h : k ≡ codeword.Fnc1 = cc in other h
 
 part_fnc1 : (place : ℕ) (words follow more after : List ℕ) (items : List Item)
@@ -114,8 +111,7 @@ begins_more (Fnc1 ∷ items) more b = tt
 said_fnc1 : (place : ℕ) (words follow more after : List ℕ) (said : Said) (others : List Said)
     → IsPlainSaid place words follow said → words ++ after ≡ 232 ∷ more → BeginsFnc1 (first_said (said ∷ others))
 said_fnc1 place words follow more after said others (part items p is) e =
-    subst (λ (s : Said). BeginsFnc1 (first_said (s ∷ others))) (sym is)
-    (begins_more items (first_said others) (part_fnc1 place words follow more after items p e))
+    rw is (begins_more items (first_said others) (part_fnc1 place words follow more after items p e))
 said_fnc1 place words follow more after said others (mark d n is whole all) e =
     absurd (not_fnc1 241 codeword.LeftOut words d after more refl (λ f. cc) whole e)
 
@@ -124,12 +120,10 @@ pub joined_fnc1 : (place : ℕ) (ps : List (Piece Said)) (after more : List ℕ)
     → IsEnd after → spelled ps ++ after ≡ 232 ∷ more → BeginsFnc1 (first_said (whats ps))
 joined_fnc1 place [] after more h (nothing none) is = absurd (let n = ap length (sym none ∙ is) in omega (arith, n))
 joined_fnc1 place [] after more h (pad w rest k e) is =
-    let f : w ∷ rest ≡ 232 ∷ more = sym e ∙ is in
     let same : w ≡ 232 = cc in
     absurd (let g : Some codeword.Pad ≡ Some codeword.Fnc1 = sym k ∙ ap codeword_of same in cc)
 joined_fnc1 place (p ∷ ps) after more h ended is =
-    said_fnc1 place p.words (spelled ps ++ after) more (spelled ps ++ after) p.what (whats ps) h.0
-    (sym (append_assoc p.words (spelled ps) after) ∙ is)
+    said_fnc1 _ _ _ more (spelled ps ++ after) _ (whats ps) h.0 (sym (append_assoc p.words (spelled ps) after) ∙ is)
 
 -- ---- how long parts are
 
@@ -221,7 +215,6 @@ module _ (place : ℕ) (p : Piece Said) (ps : List (Piece Said)) (after : List �
         before [] s f = f
         before (Byte c ∷ m) s f = f
         before (Fnc1 ∷ m) s f =
-            let small : n < 100 = (digits_are w n k).1 in
             let tens : is_digit (48 + n / 10) ≡ true = grind (arith, nat_tests) in
             let ones : is_digit (48 + n % 10) ≡ true = grind (arith, nat_tests) in
             let l = ap length (rw (tens, ones) at s) in omega (arith, l)
@@ -322,5 +315,4 @@ pub number_of_macro : (place w digit : ℕ) (ps : List (Piece Said)) (after : Li
     → (BeginsFnc1 (first_said (whats ps)) → ⊥) → fnc1_number (w ∷ (spelled ps ++ after)) ≡ 1
 number_of_macro place w digit ps after k h ended none =
     no_first w (spelled ps ++ after) (codeword.Macro digit) k (λ f. cc)
-    (other_next (codeword.Macro digit) (spelled ps ++ after)
-    (λ more e. none (joined_fnc1 place ps after more h ended e)))
+    (other_next (codeword.Macro digit) (spelled ps ++ after) (λ more e. none (joined_fnc1 place ps _ more h ended e)))

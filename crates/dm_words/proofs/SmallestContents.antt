@@ -55,12 +55,7 @@ message_content extent choice m (Err fault) words few r c = record {
 
 -- A content without a head and marks is a message.
 pub plain_is : (l : ContentView) → is_plain l.head l.marks ≡ true → as_content l.items ≡ l
-plain_is l is = by_parts l.head l.marks is where
-  by_parts : (head : Option Head) (marks : List Mark) → is_plain head marks ≡ true
-      → as_content l.items ≡ view_of head l.items marks
-  by_parts None [] e = refl
-  by_parts None (m ∷ marks) e = absurd cc
-  by_parts (Some head) marks e = absurd cc
+plain_is l h1 = grind (arith, is_plain, as_content, view_of)
 
 -- What is none has a head or a mark.
 pub is_no_message : (head : Option Head) (marks : List Mark) → is_plain head marks ≡ false → head ≡ None → marks ≡ []
@@ -75,7 +70,6 @@ is_no_message (Some head) marks e none nothing = absurd cc
 not_usual : (words : List ℕ) (l : ContentView) → is_plain l.head l.marks ≡ false → Says Usual words l → ⊥
 not_usual words l marked says =
     let e = usual_plain words l says in
-    let plain : is_plain l.head l.marks ≡ true = ap (λ (k : ContentView). is_plain k.head k.marks) e in
     absurd cc
 
 -- So none of any size are the smallest there.
@@ -90,8 +84,7 @@ usual_too_long choice l fault words marked = record {
 
 -- With pads behind them or not, words say a content.
 said_padded : (words : List ℕ) (l : ContentView) → SaysThenPads Wide words l → Says Wide words l
-said_padded words l (of_message m is s) =
-    subst (Says Wide words) (sym is) (padded_spells Wide words m s)
+said_padded words l (of_message m is s) = subst (Says Wide words) (sym is) (padded_spells _ _ m s)
 said_padded words l (of_content is s pads) = s
 
 -- What is written for one, with pads, is the smallest.
@@ -160,8 +153,7 @@ some_or_none extent choice size l words s none = none size words s.taken s.sized
 pub one_content_with_ascii : (l : ContentView) (words other : List ℕ) → IsPlainestContent words l
     → IsPlainestContent other l → length words ≡ length other → length (content_form Ascii l) ≤ length words
     → words ≡ other
-one_content_with_ascii l words other s o same room =
-    s.ascii room ∙ ap (padded (content_form Ascii l)) same ∙ sym (o.ascii (omega (arith, room, same)))
+one_content_with_ascii l words other s o same room = cc (s.ascii room, (o.ascii (omega (arith, room, same))))
 
 -- The usual extent reads both or neither.
 pub usual_content_or_not : (l : ContentView) (words other : List ℕ) → IsPlainestContent words l

@@ -44,8 +44,7 @@ one_size extent choice size other_size m words other s o =
 -- Where there is room for the ASCII form, both are this with pads.
 pub one_with_ascii : (m : List Item) (words other : List ℕ) → IsPlainest words m → IsPlainest other m
     → length words ≡ length other → length (ascii m) ≤ length words → words ≡ other
-one_with_ascii m words other s o same room =
-    s.ascii room ∙ ap (padded (ascii m)) same ∙ sym (o.ascii (omega (arith, room, same)))
+one_with_ascii m words other s o same room = cc (s.ascii room, (o.ascii (omega (arith, room, same))))
 
 -- The usual extent reads both or neither.
 pub usual_or_not : (m : List Item) (words other : List ℕ) → IsPlainest words m → IsPlainest other m

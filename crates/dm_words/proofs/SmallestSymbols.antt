@@ -50,8 +50,7 @@ plain_at extent words same m e parts pads =
       after = parts.after;
       joined = parts.joined;
       ended = parts.ended;
-      whole = e
-          ∙ parts.whole;
+      whole = cc;
       items_are = parts.items_are;
     } in
     plain_padded p pads
@@ -61,8 +60,7 @@ pub plain_spells : (extent : Extent) (count : ℕ) (base new : List ℕ) (m : Li
     → ArePartsWritten extent count base new m → length new ≤ count → SpellsThenPads extent (padded new count) m
 plain_spells extent count base new m none parts fits =
     let after = pads (length new + 1) (count - length new) in
-    let w = parts_whole extent count [] new after m
-    (subst (λ (b : List ℕ). ArePartsWritten extent count b new m) none parts) (filled new count fits)
+    let w = parts_whole extent count [] new after m (rw none at parts) (filled new count fits)
     (pads_begin (length new + 1) (count - length new)) (pads_end (length new + 1) (count - length new)) in
     plain_at extent (padded new count) w.0 m (w.1) w.2 (w.3 ∙ pads_are new count
     ∙ ap (λ (l : List ℕ). pads (length (padded new count) + 1 - length l) (length l)) (sym w.3))
@@ -73,8 +71,7 @@ pub macro_spells : (extent : Extent) (count word : ℕ) (base new : List ℕ) (m
     → length new ≤ count → SpellsThenPads extent (padded new count) m
 macro_spells extent count word base new m text one is_text is parts fits =
     let after = pads (length new + 1) (count - length new) in
-    let w = parts_whole extent count (word ∷ []) new after text
-    (subst (λ (b : List ℕ). ArePartsWritten extent count b new text) one parts) (filled new count fits)
+    let w = parts_whole extent count (word ∷ []) new after text (rw one at parts) (filled new count fits)
     (pads_begin (length new + 1) (count - length new)) (pads_end (length new + 1) (count - length new)) in
     macro_padded word is.digit w.0 text is.wide is.is_macro w.1 w.2 (is.framed ∙ ap (macro_text is.digit) (sym is_text))
     (w.3 ∙ pads_are new count

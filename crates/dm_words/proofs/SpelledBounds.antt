@@ -70,8 +70,7 @@ zeros_behind_macro n =
       message = macro_text 53 text;
       counted = ap suc (zeros_counted n);
       codewords = All-from_recursion (λ w. w < 256) (236 ∷ spelled (double_zeros n)) (omega arith, zeros_small n);
-      spells = macro_spells Wide 236 53 (236 ∷ spelled (double_zeros n)) (spelled (double_zeros n)) text refl refl refl
-          (zeros_parts Wide 2 n);
+      spells = macro_spells _ 236 53 (236 ∷ spelled (double_zeros n)) _ _ refl refl refl (zeros_parts Wide 2 n);
       long = omega (arith, length-append text macro_trailer, zeros_long n);
     }
 

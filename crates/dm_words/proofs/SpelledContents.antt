@@ -1,13 +1,13 @@
 -- Codewords that spell a message are parts of it, and parts of a message say it as a content.
 use Rattle.dm_words.proofs.Names.{◌≡◌, ℕ, ◌+◌, List, [], ◌∷◌, ◌++◌, length, refl, sym, subst, ap, ◌∙◌, append_assoc}
 use Rattle.dm_words.proofs.Names.{arith, Some, None, inl, inr, ◌⊎◌, append-nil, CodeSet, Extent, Wide, Item}
-use Rattle.dm_words.proofs.Names.{ContentFault, Mark, Head, Opening, Plain, Framed, codeword_of, unlatch_word, Piece}
-use Rattle.dm_words.proofs.Names.{spelled, gathered, whats, AreJoined, unlatch, filler, nothing, IsPart, run, AreParts}
-use Rattle.dm_words.proofs.Names.{Spells, left_out, always, macro_behind, ContentView, Said, Items, Number}
-use Rattle.dm_words.proofs.Names.{IsContentPart, part, mark, AreContentParts, said_items, said_marks, AreEmptyRuns}
-use Rattle.dm_words.proofs.Names.{AreFrame, BeginsFrame, BeginsWithHeadWord, IsOpening, headed, framed, opening_head}
-use Rattle.dm_words.proofs.Names.{opening_items, closing_items, AreOpened, Says, IsContentFault, word, HaveContentFault}
-use Rattle.dm_words.proofs.Names.{macro_text, IsPlainPart, IsPlainSaid}
+use Rattle.dm_words.proofs.Names.{ContentFault, Head, Opening, Plain, Framed, codeword_of, unlatch_word, Piece, spelled}
+use Rattle.dm_words.proofs.Names.{gathered, whats, AreJoined, unlatch, filler, nothing, IsPart, run, AreParts, Spells}
+use Rattle.dm_words.proofs.Names.{left_out, always, macro_behind, ContentView, Said, Items, IsContentPart, part, mark}
+use Rattle.dm_words.proofs.Names.{AreContentParts, said_items, said_marks, AreEmptyRuns, AreFrame, BeginsFrame}
+use Rattle.dm_words.proofs.Names.{BeginsWithHeadWord, IsOpening, headed, framed, opening_head, opening_items}
+use Rattle.dm_words.proofs.Names.{closing_items, AreOpened, Says, IsContentFault, word, HaveContentFault, macro_text}
+use Rattle.dm_words.proofs.Names.{IsPlainPart, IsPlainSaid}
 use Rattle.dm_words.specs.declared.codeword.Codeword.TheVariants as codeword
 use Rattle.dm_words.specs.declared.fault.WordFault.TheVariants as word_fault
 use Rattle.dm_words.specs.declared.contents.fault.ContentFault.TheVariants as fault
@@ -186,8 +186,7 @@ pub plainly_joined : (place : ℕ) (ps : List (Piece (List Item))) (after : List
     → AreJoined IsPlainSaid place (as_said ps) after
 plainly_joined place [] after h = tt
 plainly_joined place (p ∷ ps) after h = (
-  plainly.part p.what (subst (λ (r : List ℕ). IsPlainPart place p.words (r ++ after) p.what) (sym (said_words ps)) h.0)
-      refl,
+  plainly.part p.what (rw (sym (said_words ps)) at h.0) refl,
   plainly_joined (place + length p.words) ps after h.1,
 )
 
@@ -207,10 +206,8 @@ said_parts extent place words items p = record {
 pub parts_spell : (extent : Extent) (words : List ℕ) (m : List Item) → AreParts extent 1 words m
     → Spells extent words m
 parts_spell extent words m p =
-    let l = plain_content extent words (whats (as_said p.parts)) m (said_parts extent 1 words m p)
-    (same_items p.parts ∙ sym p.items_are) in
-    subst (λ (marks : List Mark). Says extent words (record { head = None; items = m; marks = marks }))
-    (no_marks 0 p.parts) l
+    let l = plain_content _ _ _ m (said_parts _ 1 _ m p) (same_items p.parts ∙ sym p.items_are) in
+    rw (no_marks 0 p.parts) at l
 
 -- Behind a macro they spell its text, in the wide extent.
 pub macro_spells : (extent : Extent) (w digit : ℕ) (words more : List ℕ) (text : List Item) → extent ≡ Wide
@@ -252,12 +249,9 @@ unmarked extent place before (p ∷ ps) after h none =
           → ((b : ℕ) → said_marks b (whats ps) ≡ [] → Unmarked extent (place + length p.words) ps after)
           → Unmarked extent place (p ∷ ps) after
       by_part (mark d number wide e whole is) again =
-          let some : said_marks before (Number number ∷ whats ps)
-          ≡ [] = ap (λ (s : Said). said_marks before (s ∷ whats ps)) (sym is) ∙ none in
           absurd cc
       by_part (part items q is) again =
-          let rest : said_marks (before + length items) (whats ps)
-          ≡ [] = ap (λ (s : Said). said_marks before (s ∷ whats ps)) (sym is) ∙ none in
+          let rest : said_marks (before + length items) (whats ps) ≡ [] = cc in
           let r = again (before + length items) rest in
           let one : Piece (List Item) = record { words = p.words; what = items } in
           record {
@@ -321,5 +315,4 @@ spelled_has extent words m s = by_opening s.opened.is_opening where
       let parts = unmarked_parts extent 1 0 s.more s.said
       (parts_at 1 (s.opened.place_is ∙ ap (λ (l : List ℕ). 1 + length l) e)) (marks_by Plain is) in
       let items : m ≡ said_items s.said = items_by Plain is ∙ append-nil (said_items s.said) in
-      in_parts (subst (λ (w : List ℕ). AreParts extent 1 w m) (sym whole)
-      (subst (AreParts extent 1 s.more) (sym items) parts))
+      in_parts (rw (sym whole) at (subst (AreParts extent 1 s.more) (sym items) parts))

@@ -1,10 +1,9 @@
 -- How many values an item has in a run.
 use Rattle.dm_words.proofs.Names.{◌≡◌, ℕ, ◌+◌, ◌-◌, ◌<◌, ◌≤◌, List, [], ◌∷◌, ◌++◌, length, refl, arith, Some, Bool}
 use Rattle.dm_words.proofs.Names.{true, false, cond, ltb, AllByRecursion, nat_tests, Item, Byte, Fnc1, CodeSet, C40}
-use Rattle.dm_words.proofs.Names.{Text, X12, Shift, Three, All, All-from_recursion, Basic, Shifted, basic_of}
-use Rattle.dm_words.proofs.Names.{shifted_of, IsRunValue, IsShifted, IsCharacter, by_shift, IsSpelling, is_basic}
-use Rattle.dm_words.proofs.Names.{low_values, shift_values, set_values, unit_cost}
-use Rattle.dm_words.specs.declared.c40.set.Shift.TheVariants.{One, Two}
+use Rattle.dm_words.proofs.Names.{Text, X12, Shift, All, All-from_recursion, Basic, Shifted, basic_of, shifted_of}
+use Rattle.dm_words.proofs.Names.{IsRunValue, IsShifted, IsCharacter, by_shift, IsSpelling, is_basic, low_values}
+use Rattle.dm_words.proofs.Names.{shift_values, set_values, unit_cost}
 use Rattle.dm_words.specs.declared.c40.set.Basic.TheVariants as basic
 use Rattle.dm_words.specs.declared.c40.set.Shifted.TheVariants as shifted
 use Rattle.dm_words.specs.Values.{plain, character, fnc1, raised}
@@ -12,11 +11,7 @@ use Rattle.dm_words.proofs.ItemBytes.{character_byte}
 
 -- An item by itself has at most two codewords.
 pub unit_few : (x : Item) → unit_cost x ≤ 2
-unit_few Fnc1 = omega arith
-unit_few (Byte b) = by_test (ltb b 128) where
-  by_test : (t : Bool) → cond t 1 2 ≤ 2
-  by_test true = omega arith
-  by_test false = omega arith
+unit_few x = grind (arith, nat_tests)
 
 -- A byte with a value of a basic set is basic.
 basic_is : (set : CodeSet) (v b : ℕ) → basic_of set v ≡ Some (basic.Character b) → is_basic set b ≡ true
@@ -27,13 +22,7 @@ basic_is X12 v b e = grind (arith, nat_tests)
 -- A byte behind a shift isn't basic.
 shifted_is : (set : CodeSet) (shift : Shift) (v b : ℕ) → shifted_of set shift v ≡ Some (shifted.Character b)
     → is_basic set b ≡ false
-shifted_is X12 shift v b e = absurd cc
-shifted_is C40 One v b e = grind (arith, nat_tests)
-shifted_is C40 Two v b e = grind (arith, nat_tests)
-shifted_is C40 Three v b e = grind (arith, nat_tests)
-shifted_is Text One v b e = grind (arith, nat_tests)
-shifted_is Text Two v b e = grind (arith, nat_tests)
-shifted_is Text Three v b e = grind (arith, nat_tests)
+shifted_is set shift v b h1 = grind (arith, nat_tests)
 
 -- A character has this many values.
 character_count : (set : CodeSet) (vs : List ℕ) (b : ℕ) → IsCharacter set vs b → length vs ≡ low_values set b
@@ -57,14 +46,12 @@ back b = omega arith
 -- The spelling of an item has as many values as the item.
 pub spelling_count : (set : CodeSet) (vs : List ℕ) (item : Item) → IsSpelling set vs item → length vs
     ≡ set_values set item
-spelling_count C40 vs item (character b c i) =
-    rw (i, low_test b (character_byte C40 vs b c)) (character_count C40 vs b c)
+spelling_count C40 vs item (character b c i) = rw (i, low_test b (character_byte _ _ b c)) (character_count _ _ b c)
 spelling_count C40 vs item (fnc1 s i) = rw (i, s.whole) refl
 spelling_count C40 vs item (raised upper more b u c w i) =
     let n = character_count C40 more b c in
     rw (i, w, u.whole, high_test b, back b) (omega (arith, n))
-spelling_count Text vs item (character b c i) =
-    rw (i, low_test b (character_byte Text vs b c)) (character_count Text vs b c)
+spelling_count Text vs item (character b c i) = rw (i, low_test b (character_byte _ _ b c)) (character_count _ _ b c)
 spelling_count Text vs item (fnc1 s i) = rw (i, s.whole) refl
 spelling_count Text vs item (raised upper more b u c w i) =
     let n = character_count Text more b c in
@@ -97,10 +84,7 @@ shift_held set (Byte b) = by_tests (ltb b 128) (is_basic set b) (is_basic set (b
 
 -- So many values are some.
 some_values : (c k : ℕ) → Ascii c k → 0 < k
-some_values c k (one e is) = omega (arith, is)
-some_values c k (two e is) = omega (arith, is)
-some_values c k (three e is) = omega (arith, is)
-some_values c k (four e is) = omega (arith, is)
+some_values c k h1 = grind (arith, nat_tests)
 
 -- In X12 a byte has one value.
 x12_byte : (b : ℕ) (vs : List ℕ) → IsCharacter X12 vs b → Ascii (unit_cost (Byte b)) (set_values X12 (Byte b))
@@ -129,13 +113,7 @@ basic_small Text v m e = grind (arith, nat_tests)
 basic_small X12 v m e = grind (arith, nat_tests)
 
 shifted_small : (set : CodeSet) (shift : Shift) (v : ℕ) (m : Shifted) → shifted_of set shift v ≡ Some m → v < 40
-shifted_small X12 shift v m e = absurd cc
-shifted_small C40 One v m e = grind (arith, nat_tests)
-shifted_small C40 Two v m e = grind (arith, nat_tests)
-shifted_small C40 Three v m e = grind (arith, nat_tests)
-shifted_small Text One v m e = grind (arith, nat_tests)
-shifted_small Text Two v m e = grind (arith, nat_tests)
-shifted_small Text Three v m e = grind (arith, nat_tests)
+shifted_small set shift v m h1 = grind (arith, nat_tests)
 
 abbrev Small : List ℕ → Type 0
 Small vs = AllByRecursion (λ v. v < 40) vs
@@ -166,12 +144,4 @@ spelling_small set vs item s = All-from_recursion (λ v. v < 40) vs (by_case s) 
 
 -- A spelling has at most four values.
 pub few_values : (set : CodeSet) (vs : List ℕ) (item : Item) → IsSpelling set vs item → length vs ≤ 4
-few_values set vs item s = by_case (held set vs item s).ascii where
-  n : length vs ≡ set_values set item
-  n = spelling_count set vs item s
-
-  by_case : Ascii (unit_cost item) (set_values set item) → length vs ≤ 4
-  by_case (one e is) = omega (arith, n, is)
-  by_case (two e is) = omega (arith, n, is)
-  by_case (three e is) = omega (arith, n, is)
-  by_case (four e is) = omega (arith, n, is)
+few_values set vs item h1 = grind (arith, nat_tests, held, set_values, spelling_count, unit_cost)

@@ -31,14 +31,7 @@ unit_turn u items at old new h so_far is = so_far ∙ ap (λ (r : List ℕ). old
 -- There is room for the unit.
 pub unit_room : (u : Unit) (items : List Item) (at : ℕ) (old : List ℕ) → HasUnit u items at → ascii items ≡ old
     ++ ascii (drop at items) → length old + length (unit_words u) ≤ length (ascii items)
-unit_room u items at old h so_far =
-    let all = unit_turn u items at old (old ++ unit_words u) h so_far refl in
-    omega (
-      arith,
-      ap length all,
-      length-append (old ++ unit_words u) (ascii (drop (at + unit_items u) items)),
-      length-append old (unit_words u),
-    )
+unit_room u items at old h so_far = grind (arith, unit_turn, unit_words, length-append, unit_items)
 
 -- Whether FNC1 is among the items is still known after one turn.
 pub fnc1_turn : (u : Unit) (items : List Item) (at : ℕ) (found here : Bool) → HasUnit u items at → here ≡ unit_is_fnc1 u

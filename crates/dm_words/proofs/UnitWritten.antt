@@ -1,9 +1,9 @@
 -- The units of ASCII that are written are units.
 use Rattle.dm_words.proofs.Names.{◌≡◌, ◌≢◌, ℕ, ◌+◌, ◌-◌, ◌<◌, List, [], ◌∷◌, ◌++◌, length, take, drop, get_or, refl}
-use Rattle.dm_words.proofs.Names.{sym, ap, subst, ◌∙◌, arith, Bool, true, false, cond, ltb, Some, None, at_drop_more}
-use Rattle.dm_words.proofs.Names.{All-drop, recursion_from_All, Extent, Item, Byte, Fnc1, Codeword, codeword_of}
-use Rattle.dm_words.proofs.Names.{byte_of, IsItem, IsMessage, IsAsciiUnit, character, digits, fnc1, raised, is_digit}
-use Rattle.dm_words.proofs.Names.{digit_pair, item_words, unit_cost, is_digit_item, NoUnlatchFirst, IsPartWritten}
+use Rattle.dm_words.proofs.Names.{sym, ap, subst, ◌∙◌, arith, true, Some, None, at_drop_more, All-drop}
+use Rattle.dm_words.proofs.Names.{recursion_from_All, Extent, Item, Byte, Fnc1, Codeword, codeword_of, byte_of, IsItem}
+use Rattle.dm_words.proofs.Names.{IsMessage, IsAsciiUnit, character, digits, fnc1, raised, is_digit, digit_pair}
+use Rattle.dm_words.proofs.Names.{item_words, unit_cost, is_digit_item, NoUnlatchFirst, IsPartWritten}
 use Rattle.dm_words.specs.declared.codeword.Codeword.TheVariants as codeword
 use Rattle.dm_words.specs.Plain as plainly
 use Rattle.dm_words.specs.Parts.{ascii}
@@ -15,15 +15,10 @@ has_meaning word meaning is e = (let none : codeword_of word ≡ None = ap codew
 
 -- A unit begins with no unlatch.
 unit_begins : (words : List ℕ) (items : List Item) → IsAsciiUnit words items → (0 < length words) × NoUnlatchFirst words
-unit_begins words items (character w b k e i) =
-    subst (λ (l : List ℕ). (0 < length l) × NoUnlatchFirst l) (sym e)
-    (omega arith, has_meaning w (codeword.Character b) k)
-unit_begins words items (digits w n k e i) =
-    subst (λ (l : List ℕ). (0 < length l) × NoUnlatchFirst l) (sym e) (omega arith, has_meaning w (codeword.Digits n) k)
-unit_begins words items (fnc1 w k e i) =
-    subst (λ (l : List ℕ). (0 < length l) × NoUnlatchFirst l) (sym e) (omega arith, has_meaning w codeword.Fnc1 k)
-unit_begins words items (raised s w b k l e i) =
-    subst (λ (l : List ℕ). (0 < length l) × NoUnlatchFirst l) (sym e) (omega arith, has_meaning s codeword.UpperShift k)
+unit_begins words items (character w b k e i) = rw e (omega arith, has_meaning w (codeword.Character b) k)
+unit_begins words items (digits w n k e i) = rw e (omega arith, has_meaning w (codeword.Digits n) k)
+unit_begins words items (fnc1 w k e i) = rw e (omega arith, has_meaning w codeword.Fnc1 k)
+unit_begins words items (raised s w b k l e i) = rw e (omega arith, has_meaning s codeword.UpperShift k)
 
 -- A unit was written.
 pub unit_written : (extent : Extent) (total : ℕ) (old new words : List ℕ) (items : List Item)
@@ -58,11 +53,7 @@ digit_byte Fnc1 b digit is = absurd cc
 
 -- An item has this many codewords by itself.
 pub length-item_words : (x : Item) → length (item_words x) ≡ unit_cost x
-length-item_words Fnc1 = refl
-length-item_words (Byte b) = by_test (ltb b 128) where
-  by_test : (t : Bool) → length (cond t ((b + 1) ∷ []) (235 ∷ (b - 127) ∷ [])) ≡ cond t 1 2
-  by_test true = refl
-  by_test false = refl
+length-item_words x = grind arith
 
 -- An item of a message is a byte of 0 to 255, or FNC1.
 item_fits : (m : List Item) (i : ℕ) (d : Item) → i < length m → IsMessage m → IsItem (get_or m i d)
@@ -87,10 +78,8 @@ pub one_written : (extent : Extent) (total : ℕ) (old new words : List ℕ) (m 
     → i < length m → IsMessage m → words ≡ item_words (get_or m i d) → new ≡ old ++ words
     → IsPartWritten extent total old new (take (i + 1 - i) (drop i m))
 one_written extent total old new words m i d lt fit are is =
-    subst (λ (l : List Item). IsPartWritten extent total old new l) (sym (take_one m i d lt))
-    (unit_written extent total old new words (get_or m i d ∷ [])
-    (subst (λ (l : List ℕ). IsAsciiUnit l (get_or m i d ∷ [])) (sym are)
-    (item_unit (get_or m i d) (item_fits m i d lt fit))) is)
+    subst (λ (l : List Item). IsPartWritten extent total old new l) (sym (take_one m i d lt)) (unit_written extent total
+    old new words (get_or m i d ∷ []) (rw (sym are) at (item_unit (get_or m i d) (item_fits m i d lt fit))) is)
 
 -- Two digits at an index were written together.
 pub two_written : (extent : Extent) (total : ℕ) (old new : List ℕ) (word : ℕ) (m : List Item) (i : ℕ) (d : Item)
@@ -101,5 +90,4 @@ two_written extent total old new word m i d lt tens ones are is =
     let x = get_or m i d in
     let y = get_or m (i + 1) d in
     subst (λ (l : List Item). IsPartWritten extent total old new l) (sym (take_two m i d lt))
-    (unit_written extent total old new (word ∷ []) (x ∷ y ∷ [])
-    (subst (λ (w : ℕ). IsAsciiUnit (w ∷ []) (x ∷ y ∷ [])) (sym are) (pair_unit x y tens ones)) is)
+    (unit_written extent total old new (word ∷ []) (x ∷ y ∷ []) (rw (sym are) at (pair_unit x y tens ones)) is)

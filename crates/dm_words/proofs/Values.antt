@@ -1,6 +1,6 @@
 -- The items that the scan finds among the values of a run are those that they spell.
 use Rattle.dm_words.proofs.Names.{◌≡◌, ◌≢◌, ℕ, ◌+◌, ◌<◌, ◌≤◌, List, [], ◌∷◌, ◌++◌, length, take, drop, refl, sym, ap}
-use Rattle.dm_words.proofs.Names.{subst, ◌∙◌, arith, Option, Some, None, inl, inr, ◌⊎◌, AllByRecursion, nat_tests}
+use Rattle.dm_words.proofs.Names.{subst, arith, Option, Some, None, inl, inr, ◌⊎◌, AllByRecursion, nat_tests}
 use Rattle.dm_words.proofs.Names.{recursion_from_All, take-append-drop, Item, Byte, CodeSet, C40, Text, X12, Shift}
 use Rattle.dm_words.proofs.Names.{Basic, Shifted, basic_of, shifted_of, IsShifted, IsUpperShift, IsCharacter, by_shift}
 use Rattle.dm_words.proofs.Names.{IsSpelling, IsFiller, nothing, lone_shift, IsRest, waiting, AreRunValues}
@@ -190,24 +190,13 @@ waiting_complete set place values upper filler u (lone_shift v shift e is) w =
 wrong_complete : (set : CodeSet) (place : ℕ) (values upper pair more : List ℕ) → IsUpperShift set upper
     → IsShifted set pair (Some shifted.Fnc1) ⊎ IsUpperShift set pair → values ≡ upper ++ (pair ++ more)
     → first_spelling set place values ≡ Stops left.WrongUpperShift
-wrong_complete set place values upper pair more u (inl t) w =
-    rw (w, u.whole, t.whole) (rw (u.is_shift, u.means, t.is_shift, t.means) refl)
-wrong_complete set place values upper pair more u (inr t) w =
-    rw (w, u.whole, t.whole) (rw (u.is_shift, u.means, t.is_shift, t.means) refl)
+wrong_complete set place values upper pair more h1 h2 h3 = grind (arith, nat_tests)
 
 -- A rest of each kind is found.
 pub rest_complete : (set : CodeSet) (place : ℕ) (values : List ℕ) (kind : Rest) → IsRestOf set values kind
     → first_spelling set place values ≡ Stops kind
-rest_complete set place values left.Complete (nothing w) = rw w refl
-rest_complete set place values left.Complete (lone_shift v shift e w) = rw w (rw e refl)
-rest_complete set place values left.Waiting r =
-    waiting_complete set place values r.upper r.filler r.is_upper r.ended r.whole
-rest_complete set place values left.WrongUpperShift r =
-    wrong_complete set place values r.upper r.two r.more r.is_upper r.is_wrong r.whole
-rest_complete set place values (left.Meaningless index) (at_once pair more s w i) =
-    rw (w, s.whole, i) (rw (s.is_shift, s.means) refl)
-rest_complete set place values (left.Meaningless index) (after_upper_shift upper pair more u s w i) =
-    rw (w, u.whole, s.whole, i) (rw (u.is_shift, u.means, s.is_shift, s.means) refl)
+rest_complete set place values kind h1 =
+    grind (arith, nat_tests, lone_shift, waiting_complete, wrong_complete, at_once, after_upper_shift)
 
 -- ---- what can stand behind the last whole spelling has no whole spelling as a prefix
 
@@ -231,7 +220,6 @@ rest_begins_no_spelling set values r prefix more item e s =
     let k = kind_of set values r in
     let stops = rest_complete set 0 values k.0 k.1 in
     let takes = (item_complete set 0 prefix more item s).0 in
-    let both : Stops k.0 ≡ Takes (length prefix) item = sym stops ∙ ap (first_spelling set 0) e ∙ takes in
     cc
 
 -- Whatever is found first, values with no whole spelling there are a rest.

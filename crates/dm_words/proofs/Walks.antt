@@ -1,8 +1,8 @@
 -- A walk finds the pieces that are joined, and no others.
 use Rattle.dm_words.proofs.Names.{◌≡◌, ℕ, zero, suc, ◌+◌, ◌<◌, ◌≤◌, List, [], ◌∷◌, ◌++◌, length, take, drop, refl, sym}
-use Rattle.dm_words.proofs.Names.{ap, subst, ◌∙◌, append_assoc, arith, add-zero, length-append, drop_at}
-use Rattle.dm_words.proofs.Names.{take-append-drop, length-take, length-drop, Piece, spelled, whats, AreJoined, Step}
-use Rattle.dm_words.proofs.Names.{Takes, Stops, Walked, and_before}
+use Rattle.dm_words.proofs.Names.{ap, subst, append_assoc, arith, add-zero, length-append, drop_at, take-append-drop}
+use Rattle.dm_words.proofs.Names.{length-take, length-drop, Piece, spelled, whats, AreJoined, Step, Takes, Stops}
+use Rattle.dm_words.proofs.Names.{Walked, and_before}
 use Rattle.dm_words.specs.inner.Scan.Walk.{by_step, walk, walk_all}
 
 module _ {A S : Type 0} where
@@ -41,8 +41,7 @@ module _ {A S : Type 0} where
         record {
           pieces = (let p : Piece A = record { words = take n words; what = a } in p) ∷ v.pieces;
           after = v.after;
-          whole = sym (take-append-drop n words) ∙ ap (λ (r : List ℕ). take n words ++ r) v.whole
-              ∙ sym (append_assoc (take n words) (spelled v.pieces) v.after);
+          whole = cc (take-append-drop n words, v.whole, append_assoc (take n words) (spelled v.pieces) v.after);
           joined = (
             subst (λ (r : List ℕ). IsRight place (take n words) r a) v.whole right,
             subst (λ (k : ℕ). AreJoined IsRight (place + k) v.pieces v.after) (sym len) v.joined,
@@ -104,9 +103,7 @@ module _ {A S : Type 0} where
         omega (arith, length-append p.words (spelled ps)) in
         let shorter : length (spelled ps ++ after) < fuel =
         omega (arith, c.1, lt, ap length grouped, length-append p.words (spelled ps ++ after)) in
-        let rest =
-        walk-joined complete fuel (place + length p.words) ps after s joined.1
-        (subst (λ (k : ℕ). step k after ≡ Stops s) there stop) shorter in
+        let rest = walk-joined complete fuel (place + length p.words) ps after s joined.1 (rw there at stop) shorter in
         rw (grouped, c.0, drop_at p.words (spelled ps ++ after) (length p.words) refl, rest, there) refl
 
 module _ {A S : Type 0} (step : ℕ → List ℕ → Step A S) (IsRight : ℕ → List ℕ → List ℕ → A → Type 0) (Fit : List ℕ

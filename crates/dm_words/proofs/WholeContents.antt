@@ -2,11 +2,11 @@
 -- it.
 use Rattle.dm_words.proofs.Names.{◌≡◌, ℕ, zero, suc, ◌+◌, List, [], ◌∷◌, ◌++◌, length, drop, refl, sym, ap, subst, ◌∙◌}
 use Rattle.dm_words.proofs.Names.{append_assoc, arith, Option, Some, None, Result, Ok, Err, inl, inr, drop_at, Extent}
-use Rattle.dm_words.proofs.Names.{Item, ContentFault, Opened, Opening, spelled, AreBytes, ContentView, Said}
-use Rattle.dm_words.proofs.Names.{IsContentPart, AreContentParts, said_items, said_marks, opening_head, opening_items}
-use Rattle.dm_words.proofs.Names.{closing_items, said_content, AreOpened, Says, IsContentFault, HaveContentFault}
-use Rattle.dm_words.proofs.Names.{IsRefused, no_head, behind, HasOneContentResult, Stops, Walked, opened}
-use Rattle.dm_words.proofs.Names.{first_content_part, extended, content_to, opening_content, content_by, content_of}
+use Rattle.dm_words.proofs.Names.{ContentFault, Opened, Opening, spelled, AreBytes, ContentView, Said, IsContentPart}
+use Rattle.dm_words.proofs.Names.{AreContentParts, said_items, said_marks, opening_head, opening_items, closing_items}
+use Rattle.dm_words.proofs.Names.{said_content, AreOpened, Says, IsContentFault, HaveContentFault, IsRefused, no_head}
+use Rattle.dm_words.proofs.Names.{behind, HasOneContentResult, Stops, Walked, opened, first_content_part, extended}
+use Rattle.dm_words.proofs.Names.{content_to, opening_content, content_by, content_of}
 use Rattle.dm_words.specs.declared.contents.fault.ContentFault.TheVariants as fault
 use Rattle.dm_words.specs.inner.Scan.Walk.{walk}
 use Rattle.dm_words.specs.inner.ContentScan.{content_on, and_closing}
@@ -78,8 +78,7 @@ read_tells : (extent : Extent) (so_far : ContentView) (place : ℕ) (words : Lis
     → Tells extent so_far place words (content_on extent so_far place words)
 unfolding content_on
 read_tells extent so_far place words fit =
-    walk_tells extent so_far place words (walked extent place words) (walked extent place words).why refl
-    (the_walk extent place words fit)
+    walk_tells extent so_far _ _ _ (walked extent place words).why refl (the_walk extent place words fit)
 
 -- What is said from a place on is read.
 pub parts_read : (extent : Extent) (so_far : ContentView) (place : ℕ) (words : List ℕ) (said : List Said)
@@ -107,13 +106,7 @@ fault_read extent so_far place words f r =
 closed_content : (opening : Opening) (said : List Said)
     → and_closing opening (Ok (extended (opening_content opening) said)) ≡ Ok (said_content opening said)
 closed_content opening said =
-    ap (λ (items : List Item). Ok (let l : ContentView =
-    record {
-      head = opening_head opening;
-      items = items;
-      marks = said_marks (length (opening_items opening)) said;
-    } in l))
-    (append_assoc (opening_items opening) (said_items said) (closing_items opening))
+    grind (arith, opening_head, said_marks, opening_items, append_assoc, said_items, closing_items)
 
 -- A content before what closes it is read from a content.
 closing_content : (closing : Opening) (r : Result ContentView ContentFault) (l : ContentView) → and_closing closing r
@@ -184,8 +177,7 @@ pub opens_so : (extent : Extent) (words : List ℕ) (opening : Opening) (place :
     ≡ more)
 opens_so extent words opening place more a = (
   ap (opened extent) a.whole ∙ openings.complete extent a.first more opening a.is_opening,
-  ap (drop (length a.first)) a.whole
-      ∙ drop_at a.first more (length a.first) refl,
+  cc (a.whole, drop_at a.first more (length a.first) refl),
 )
 
 -- A content that is said is read.
@@ -204,17 +196,12 @@ said_reads extent words l s =
 -- A fault with which the codewords are refused is found.
 pub refused_reads : (extent : Extent) (words : List ℕ) (f : ContentFault) → IsRefused extent words f
     → content_of extent words ≡ Err f
-refused_reads extent words f (no_head more wide e none is) =
-    rw (wide, openings.no_head_complete words more e none, is) refl
+refused_reads extent words f (no_head more wide e none is) = rw (wide, openings.no_head_complete _ more e none, is) refl
 refused_reads extent words f (behind opening place more a h) =
     let o = opens_so extent words opening place more a in
     let read = fault_read extent (opening_content opening) place more f h in
     let p : 1 + length a.first ≡ place = sym a.place_is in
-    ap (content_by extent words) o.0
-    ∙ ap (λ (ws : List ℕ). and_closing opening (content_on extent (opening_content opening) (1 + length a.first) ws))
-    o.1
-    ∙ ap (λ (q : ℕ). and_closing opening (content_on extent (opening_content opening) q more)) p
-    ∙ ap (and_closing opening) read
+    cc
 
 -- Codewords have one result, by what is read from them.
 result_of : (extent : Extent) (words : List ℕ) (r : Result ContentView ContentFault) → content_of extent words ≡ r

@@ -7,8 +7,7 @@ write_unit-at-requires g c =
     let h = has_unit c.unit_at-unit.result c.args.items.now c.loop-at.at c.loop-at-test.true c.unit_at-unit.ensures in
     omega (
       arith,
-      unit_room c.unit_at-unit.result c.args.items.now c.loop-at.at c.loop-at.words.items h
-          c.loop-at.invariant.so_far,
+      unit_room _ _ _ c.loop-at.words.items h c.loop-at.invariant.so_far,
     )
 
 pub loop-at-preserved : goal.loop-at-preserved
@@ -17,12 +16,9 @@ loop-at-preserved g c =
     record {
       in_range = rw c.write_unit-at.ensures.item_count h.within;
       so_far = rw c.write_unit-at.ensures.item_count
-          (unit_turn c.unit_at-unit.result c.args.items.now c.loop-at.at c.loop-at.words.items
-          c.write_unit-at.new.words.items h c.loop-at.invariant.so_far c.write_unit-at.ensures.words);
-      has_fnc1 =
-          rw c.write_unit-at.ensures.item_count
-          (fnc1_turn c.unit_at-unit.result c.args.items.now c.loop-at.at c.loop-at.has_fnc1 c.is_fnc1-has_fnc1.result
-          h c.is_fnc1-has_fnc1.ensures c.loop-at.invariant.has_fnc1);
+          (unit_turn _ _ _ c.loop-at.words.items _ h c.loop-at.invariant.so_far c.write_unit-at.ensures.words);
+      has_fnc1 = rw c.write_unit-at.ensures.item_count
+          (fnc1_turn _ _ _ c.loop-at.has_fnc1 _ h c.is_fnc1-has_fnc1.ensures c.loop-at.invariant.has_fnc1);
     }
 
 pub loop-at-smaller : goal.loop-at-smaller

@@ -1,5 +1,5 @@
-use Rattle.dm_words.proofs.Names.{◌≡◌, ◌∙◌, ◌+◌, ◌%◌, ◌++◌, ◌∷◌, [], length, map, take, arith, ap, sym, length-append}
-use Rattle.dm_words.proofs.Names.{length-map, length-take, byte_of, random_at, randomised, written}
+use Rattle.dm_words.proofs.Names.{◌≡◌, ◌+◌, ◌++◌, ◌∷◌, [], length, map, take, arith, ap, length-append, length-map}
+use Rattle.dm_words.proofs.Names.{length-take, byte_of, randomised, written}
 use Rattle.dm_words.proofs.Segments.{length-written}
 use Rattle.dm_words.proofs.NormalForms.{bytes_more}
 use Rattle.dm_words.proofs.base256.write_bytes.Goals as goal
@@ -21,11 +21,9 @@ pub loop-item-preserved : goal.loop-item-preserved
 loop-item-preserved g c =
     let old = c.loop-item.words.items in
     let v = c.loop-item.invariant in
-    let put : c.push.new.self.items ≡ old ++ randomised (length old + 1) c.byte.result ∷ [] =
-    c.push.ensures.items ∙ ap (λ n. old ++ ((c.byte.result + n) % 256) ∷ []) v.number in
+    let put : c.push.new.self.items ≡ old ++ randomised (length old + 1) c.byte.result ∷ [] = cc in
     record {
       so_far = bytes_more c.args.words.now.items old c.push.new.self.items c.args.items.now c.loop-item.item-index
           c.byte.result _ c.loop-item-test.true c.byte.ensures v.so_far put;
-      number = c.next_random-number.ensures.next (length old + 1) v.number
-          ∙ ap (λ n. random_at (n + 1)) (sym c.push.ensures.len);
+      number = cc (c.next_random-number.ensures.next (length old + 1) v.number, c.push.ensures.len);
     }

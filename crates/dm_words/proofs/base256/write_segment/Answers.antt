@@ -33,8 +33,6 @@ write_bytes-requires g c =
 pub returns : goal.returns
 returns g c =
     let m = c.args.items.now in
-    let whole =
-    segment_whole [] c.push.new.self.items c.push_length.new.words.items c.write_bytes.new.words.items
-    (length_numbers (length m)) (map byte_of m)
+    let whole = segment_whole [] c.push.new.self.items _ _ (length_numbers (length m)) (map byte_of m)
     (c.push.ensures.items ∙ ap (λ l. l ++ 231 ∷ []) c.clear.ensures) c.push_length.ensures c.write_bytes.ensures in
     whole ∙ ap (λ k. 231 ∷ written 2 (length_numbers k ++ map byte_of m)) (sym (length-map m byte_of))

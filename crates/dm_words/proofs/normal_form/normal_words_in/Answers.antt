@@ -16,7 +16,6 @@ pub returns-then-form_of-clause-plain : goal.returns-then-form_of-clause-plain
 returns-then-form_of-clause-plain g c =
     let e = c.form_of.ensures in
     let form = rw c.if-form_of.true at e.form in
-    let fits = rw c.if-not-surely_fits.false at c.surely_fits.ensures in
     λ message. message_plain c.args.profile c.args.items.now c.write_segment.new.words.items
     (c.write_segment.ensures ∙ sym form)
     (omega (arith, ap length c.write_segment.ensures, ap length form)) message

@@ -9,6 +9,5 @@ loop-place-preserved g c =
     record {
       start = omega (arith, v.start);
       len = omega (arith, v.len, e.len);
-      so_far = pads_more c.args.words.now.items c.loop-place.place c.loop-place.words.items
-          c.push-in-loop-place.new.self.items c.pad_word.result v.start c.pad_word.ensures v.so_far e.items;
+      so_far = pads_more c.args.words.now.items c.loop-place.place _ _ _ v.start c.pad_word.ensures v.so_far e.items;
     }

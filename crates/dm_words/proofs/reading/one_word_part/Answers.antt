@@ -20,8 +20,7 @@ returns-in-Digits-clause-one g c =
 pub returns-in-Digits-clause-taken : goal.returns-in-Digits-clause-taken
 returns-in-Digits-clause-taken g c = λ extent place more.
     let is = rw c.in-Digits.is at c.lone_of.ensures in
-    digits_taken extent place c.args.word c.in-Digits.number more c.args.message.now c.add_digits.new.message is
-    c.add_digits.ensures
+    digits_taken extent place c.args.word c.in-Digits.number more c.args.message.now _ is c.add_digits.ensures
 
 pub returns-in-Other-clause-one : goal.returns-in-Other-clause-one
 returns-in-Other-clause-one g c =

@@ -1,21 +1,16 @@
-use Rattle.dm_words.proofs.Names.{subst, sym, ◌∙◌, Err, ContentView, Extent, IsSmallestContentResult, view_of}
+use Rattle.dm_words.proofs.Names.{subst, sym, ◌∙◌, Err, Extent, IsSmallestContentResult, view_of}
 use Rattle.dm_words.proofs.SmallestContents.{plain_is, is_no_message, usual_too_long}
 use Rattle.dm_words.proofs.smallest.smallest_in.Goals as goal
 
 pub returns-then-is_plain-clause-smallest : goal.returns-then-is_plain-clause-smallest
 returns-then-is_plain-clause-smallest g c =
     let a = c.args in
-    subst (λ (l : ContentView). IsSmallestContentResult a.extent a.choice l c.smallest_items_to.result
-    c.smallest_items_to.new.words.items)
-    (plain_is (view_of a.head a.items.now a.marks.now) (sym c.is_plain.ensures ∙ c.if-is_plain.true))
+    rw (plain_is (view_of a.head a.items.now a.marks.now) (sym c.is_plain.ensures ∙ c.if-is_plain.true)) at
     c.smallest_items_to.ensures.content
 
 pub returns-in-Wide-clause-smallest : goal.returns-in-Wide-clause-smallest
 returns-in-Wide-clause-smallest g c =
-    let a = c.args in
-    subst (λ (e : Extent). IsSmallestContentResult e a.choice (view_of a.head a.items.now a.marks.now)
-    c.smallest_marked_to.result c.smallest_marked_to.new.words.items) (sym c.in-Wide.is)
-    c.smallest_marked_to.ensures.smallest
+    rw (sym c.in-Wide.is) at c.smallest_marked_to.ensures.smallest
 
 pub returns-in-Wide-clause-message : goal.returns-in-Wide-clause-message
 returns-in-Wide-clause-message g c = λ none nothing.

@@ -1,5 +1,4 @@
-use Rattle.dm_words.proofs.Names.{◌≡◌, ◌∙◌, ℕ, List, length, ap, sym, subst, arith, as_content, padded, IsPlainForm}
-use Rattle.dm_words.proofs.Names.{IsPlainest, SpellsThenPads}
+use Rattle.dm_words.proofs.Names.{◌≡◌, ℕ, List, length, sym, subst, arith, padded, IsPlainest, SpellsThenPads}
 use Rattle.dm_words.proofs.SmallestContents.{message_content}
 use Rattle.dm_words.proofs.SmallestSymbols.{is_smallest, none_spells, padded_spells}
 use Rattle.dm_words.proofs.smallest.smallest_items_to.Goals as goal
@@ -20,16 +19,13 @@ returns-in-Some-clause-smallest c =
     let written = c.write_plainest.new.words.items in
     let count = c.data_count-count.result in
     let size = c.in-Some.ensures in
-    let is : c.pad_to.new.words.items ≡ padded written count = c.pad_to.ensures.words
-    ∙ ap (λ (n : ℕ). padded written n) c.from.ensures in
-    let long : length c.pad_to.new.words.items ≡ c.in-Some.size.data_count =
-    omega (arith, c.pad_to.ensures.count, c.from.ensures, c.data_count-count.ensures.value) in
+    let is : c.pad_to.new.words.items ≡ padded written count = cc in
+    let long : length c.pad_to.new.words.items ≡ c.in-Some.size.data_count = cc in
     let spells = subst (λ (l : List ℕ). SpellsThenPads extent l m) (sym is) c.write_plainest.ensures.spells in
     record {
       smallest = is_smallest extent c.args.choice m c.least_way-found.result.way.cost c.in-Some.size
           c.pad_to.new.words.items c.least_way-found.ensures.least (size.size, size.chosen) size.smallest size.narrowest
-          long (padded_spells extent c.pad_to.new.words.items m spells)
-          (subst (λ (l : List ℕ). IsPlainForm l (as_content m)) (sym is) c.write_plainest.ensures.form);
+          long (padded_spells extent c.pad_to.new.words.items m spells) (rw (sym is) at c.write_plainest.ensures.form);
       plainest = subst (λ (l : List ℕ). IsPlainest l m) (sym is) c.write_plainest.ensures.plainest;
       padded = spells;
       too_long = λ err size other taken sized framed says. absurd (cc);
@@ -37,15 +33,13 @@ returns-in-Some-clause-smallest c =
 
 pub returns-in-None-clause-content : goal.returns-in-None-clause-content
 returns-in-None-clause-content c =
-    message_content c.args.extent c.args.choice c.args.items.now _ c.args.words.now.items
-    (omega (arith, c.requires.few)) (returns-in-None-clause-smallest c)
+    message_content _ _ _ _ _ (omega (arith, c.requires.few)) (returns-in-None-clause-smallest c)
     (c.least_way-found.result.way.cost, c.least_way-found.ensures.least, c.in-None.ensures.none)
 
 pub returns-in-Some-clause-content : goal.returns-in-Some-clause-content
 returns-in-Some-clause-content c =
     let size = c.in-Some.ensures in
-    message_content c.args.extent c.args.choice c.args.items.now _ c.pad_to.new.words.items
-    (omega (arith, c.requires.few)) (returns-in-Some-clause-smallest c) (
+    message_content _ _ _ _ _ (omega (arith, c.requires.few)) (returns-in-Some-clause-smallest c) (
       c.least_way-found.result.way.cost,
       c.least_way-found.ensures.least,
       record { taken = (size.size, size.chosen); smallest = size.smallest; narrowest = size.narrowest },

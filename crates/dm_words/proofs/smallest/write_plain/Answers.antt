@@ -7,18 +7,14 @@ pub returns-clause-spells : goal.returns-clause-spells
 returns-clause-spells g c =
     let new = c.write_parts.new.words.items in
     plain_spells c.args.extent c.args.count c.clear.new.self.items new c.args.items.now c.clear.ensures
-    (subst (λ (n : ℕ). ArePartsWritten c.args.extent n c.clear.new.self.items new c.args.items.now) c.from.ensures
-    (subst (λ (s : Setting). ArePartsWritten s.extent c.from.result c.clear.new.self.items new c.args.items.now)
-    c.at_end.ensures c.write_parts.ensures.parts))
+    (rw c.from.ensures at (rw c.at_end.ensures at c.write_parts.ensures.parts))
     (omega (arith, c.write_parts.ensures.fits, c.from.ensures))
 
 pub returns-clause-usual : goal.returns-clause-usual
 returns-clause-usual g c all =
     let new = c.write_parts.new.words.items in
     plain_spells Usual c.args.count c.clear.new.self.items new c.args.items.now c.clear.ensures
-    (subst (λ (n : ℕ). ArePartsWritten Usual n c.clear.new.self.items new c.args.items.now) c.from.ensures
-    (c.write_parts.ensures.usual all))
-    (omega (arith, c.write_parts.ensures.fits, c.from.ensures))
+    (rw c.from.ensures at (c.write_parts.ensures.usual all)) (omega (arith, c.write_parts.ensures.fits, c.from.ensures))
 
 pub returns-clause-form : goal.returns-clause-form
 returns-clause-form g c =

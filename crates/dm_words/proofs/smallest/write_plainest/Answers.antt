@@ -1,5 +1,4 @@
-use Rattle.dm_words.proofs.Names.{rules, ℕ, List, ap, sym, subst, arith, length, padded, SpellsThenPads}
-use Rattle.dm_words.proofs.Names.{recursion_from_All, as_content, IsItem, IsPlainForm}
+use Rattle.dm_words.proofs.Names.{rules, ap, sym, arith, length, recursion_from_All, as_content, IsItem}
 use Rattle.dm_words.proofs.LawLemmas.{ascii_padded}
 use Rattle.dm_words.proofs.SmallestSymbols.{ascii_plainest, usual_plainest}
 use Rattle.dm_words.proofs.PlainForms.{ascii_plain, message_writable}
@@ -7,14 +6,12 @@ use Rattle.dm_words.proofs.smallest.write_plainest.Goals as goal
 
 pub returns-then-found-count-clause-spells : goal.returns-then-found-count-clause-spells
 returns-then-found-count-clause-spells g c =
-    subst (λ (l : List ℕ). SpellsThenPads c.args.extent (padded l c.args.count) c.args.items.now)
-    (sym c.write_ascii-form.ensures.words)
+    rw (sym c.write_ascii-form.ensures.words) at
     (ascii_padded c.args.extent c.args.items.now c.args.count c.requires.message)
 
 pub returns-then-found-count-clause-plainest : goal.returns-then-found-count-clause-plainest
 returns-then-found-count-clause-plainest g c =
-    ascii_plainest c.args.items.now c.write_ascii-form.new.words.items c.args.count c.requires.message
-    c.write_ascii-form.ensures.words
+    ascii_plainest c.args.items.now _ c.args.count c.requires.message c.write_ascii-form.ensures.words
     (omega (arith, ap length c.write_ascii-form.ensures.words, c.requires.ascii, c.if-found-count.true))
 
 pub returns-else-not-is_usual-clause-plainest : goal.returns-else-not-is_usual-clause-plainest
@@ -25,8 +22,6 @@ returns-else-not-is_usual-clause-plainest g c =
 
 pub returns-then-found-count-clause-form : goal.returns-then-found-count-clause-form
 returns-then-found-count-clause-form g c =
-    subst (λ (l : List ℕ). IsPlainForm (padded l c.args.count) (as_content c.args.items.now))
-    (sym c.write_ascii-form.ensures.words)
-    (ascii_plain (as_content c.args.items.now) c.args.count
+    rw (sym c.write_ascii-form.ensures.words) at (ascii_plain (as_content c.args.items.now) c.args.count
     (message_writable c.args.items.now (recursion_from_All IsItem c.args.items.now c.requires.message))
     (omega (arith, c.requires.ascii, c.if-found-count.true)))

@@ -1,11 +1,9 @@
-use Rattle.dm_words.proofs.Names.{arith, ◌∙◌, ap, Setting, parts_cost, padded}
+use Rattle.dm_words.proofs.Names.{arith, ◌∙◌, ap, Setting, parts_cost}
 use Rattle.dm_words.proofs.SmallestSymbols.{wider, usual_plainest, any_plainest, long_plainest}
 use Rattle.dm_words.proofs.smallest.write_usual_if_fits.Goals as goal
 
 pub returns-then-plan_to-count-clause-spells : goal.returns-then-plan_to-count-clause-spells
-returns-then-plan_to-count-clause-spells g c =
-    wider c.args.extent (padded c.write_plain-usual.new.words.items c.args.count) c.args.items.now
-    c.write_plain-usual.ensures.spells
+returns-then-plan_to-count-clause-spells g c = wider c.args.extent _ _ c.write_plain-usual.ensures.spells
 
 pub returns-then-plan_to-count-clause-plainest : goal.returns-then-plan_to-count-clause-plainest
 returns-then-plan_to-count-clause-plainest g c =

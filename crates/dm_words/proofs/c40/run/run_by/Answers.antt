@@ -9,8 +9,7 @@ returns-in-Some g c =
     run_is c.args.extent c.args.set (c.args.at + 1) c.args.words.now c.as_slice.result.now p.result.word_count
     p.result.end r.result.value_count r.result.rest
     (Some c.in-Some.fault) (
-      c.as_slice.ensures.value
-          ∙ p.ensures.values,
+      cc (c.as_slice.ensures.value, p.ensures.values),
       p.ensures.word_count,
       p.ensures.end,
     ) r.ensures.value_count r.ensures.rest
@@ -20,9 +19,7 @@ pub returns-in-None : goal.returns-in-None
 returns-in-None g c =
     let p = c.pairs_to-pairs in
     let r = c.read_values-spelled in
-    let run =
-    run_is c.args.extent c.args.set (c.args.at + 1) c.args.words.now c.as_slice.result.now p.result.word_count
-    p.result.end r.result.value_count r.result.rest
-    None (c.as_slice.ensures.value ∙ p.ensures.values, p.ensures.word_count, p.ensures.end) r.ensures.value_count
-    r.ensures.rest (sym c.fault_of.ensures ∙ c.in-None.is) in
+    let run = run_is c.args.extent c.args.set (c.args.at + 1) c.args.words.now c.as_slice.result.now p.result.word_count
+    p.result.end _ _ None (c.as_slice.ensures.value ∙ p.ensures.values, p.ensures.word_count, p.ensures.end)
+    r.ensures.value_count r.ensures.rest (sym c.fault_of.ensures ∙ c.in-None.is) in
     ((items_in c.args.set c.as_slice.result.now).taken, run ∙ rw c.end_length.ensures refl, r.ensures.items)

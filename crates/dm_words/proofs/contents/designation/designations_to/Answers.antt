@@ -4,8 +4,7 @@ use Rattle.dm_words.proofs.ContentReadings.{opening_room}
 use Rattle.dm_words.proofs.contents.designation.designations_to.Goals as goal
 
 pub returns-in_default : goal.returns-in_default
-returns-in_default g c =
-    of_no_opening c.args.words.now c.clear.new.self.items (sym c.opening_of.ensures ∙ c.in_default.is) c.clear.ensures
+returns-in_default g c = of_no_opening c.args.words.now _ (sym c.opening_of.ensures ∙ c.in_default.is) c.clear.ensures
 
 pub add_designations-requires : goal.add_designations-requires
 add_designations-requires g c =
@@ -26,5 +25,4 @@ returns-in-Ok g c =
 pub returns-in-Err : goal.returns-in-Err
 returns-in-Err g c =
     let opens = sym c.opening_of.ensures ∙ c.in-Some.is in
-    of_fault c.args.words.now c.in-Some.opened c.clear-in-Err.new.self.items c.in-Err.field-0 opens
-    c.in-Err.ensures c.clear-in-Err.ensures
+    of_fault c.args.words.now c.in-Some.opened _ _ opens c.in-Err.ensures c.clear-in-Err.ensures

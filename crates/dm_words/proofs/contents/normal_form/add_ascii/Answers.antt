@@ -9,8 +9,7 @@ write_unit-at-requires g c =
     omega (
       arith,
       length-append c.args.words.now.items (ascii c.args.items.now),
-      unit_fits c.unit_at-unit.result c.args.items.now c.loop-at.at _ c.loop-at.words.items h
-          c.loop-at.invariant.so_far,
+      unit_fits _ _ _ _ c.loop-at.words.items h c.loop-at.invariant.so_far,
     )
 
 pub loop-at-preserved : goal.loop-at-preserved
@@ -19,8 +18,7 @@ loop-at-preserved g c =
     record {
       in_range = rw c.write_unit-at.ensures.item_count h.within;
       so_far = rw c.write_unit-at.ensures.item_count
-          (unit_added c.unit_at-unit.result c.args.items.now c.loop-at.at _ c.loop-at.words.items
-          c.write_unit-at.new.words.items h c.loop-at.invariant.so_far c.write_unit-at.ensures.words);
+          (unit_added _ _ _ _ c.loop-at.words.items _ h c.loop-at.invariant.so_far c.write_unit-at.ensures.words);
     }
 
 pub loop-at-smaller : goal.loop-at-smaller

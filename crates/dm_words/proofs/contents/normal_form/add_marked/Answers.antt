@@ -21,9 +21,7 @@ pub add_mark_words-requires : goal.add_mark_words-requires
 add_mark_words-requires g c =
     let t = turn c.args.items.now c.args.marks.now c.loop-mark.before c.loop-mark.mark-index
     (record { place = 0; number = 0 }) c.loop-mark-test.true c.loop-mark.invariant.in_order in
-    let room =
-    mark_fits c.args.items.now c.args.marks.now c.loop-mark.before c.loop-mark.mark-index _ _ _ c.args.words.now.items
-    _ c.loop-mark.words.items c.add_ascii.new.words.items t c.loop-mark.invariant.so_far
+    let room = mark_fits _ _ _ _ _ _ _ c.args.words.now.items _ c.loop-mark.words.items _ t c.loop-mark.invariant.so_far
     c.requires.room c.add_ascii.ensures in
     (search rules, (t.assigned, room))
 
@@ -34,9 +32,8 @@ loop-mark-preserved g c =
     record {
       within = t.within;
       in_order = t.in_order;
-      so_far = add_turn c.args.items.now c.args.marks.now c.loop-mark.before c.loop-mark.mark-index _ _ _
-          c.loop-mark.words.items c.add_ascii.new.words.items c.add_mark_words.new.words.items t
-          c.loop-mark.invariant.so_far c.add_ascii.ensures c.add_mark_words.ensures;
+      so_far = add_turn _ _ _ _ _ _ _ c.loop-mark.words.items _ _ t c.loop-mark.invariant.so_far c.add_ascii.ensures
+          c.add_mark_words.ensures;
     }
 
 pub add_ascii-requires-2 : goal.add_ascii-requires-2

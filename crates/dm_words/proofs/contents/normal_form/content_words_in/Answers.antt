@@ -1,4 +1,4 @@
-use Rattle.dm_words.proofs.Names.{◌∙◌, ◌++◌, sym, head_words, ascii_with_marks, normal_form}
+use Rattle.dm_words.proofs.Names.{◌∙◌, sym, normal_form}
 use Rattle.dm_words.proofs.NormalPlain.{content_plain, plain_is_normal, marked_is_ascii}
 use Rattle.dm_words.proofs.contents.normal_form.content_words_in.Goals as goal
 
@@ -14,8 +14,7 @@ returns-then-is_plain-clause-plain g c =
 pub returns-clause-plain : goal.returns-clause-plain
 returns-clause-plain g c =
     let a = c.args in
-    content_plain a.profile a.head a.items.now a.marks.now c.write_marked.new.words.items
-    (head_words a.head ++ ascii_with_marks 0 a.items.now a.marks.now) g.row.N c.write_marked.result c.requires.head
-    c.requires.in_order c.requires.most
+    content_plain a.profile a.head a.items.now a.marks.now c.write_marked.new.words.items _ g.row.N
+    c.write_marked.result c.requires.head c.requires.in_order c.requires.most
     (marked_is_ascii a.profile a.head a.items.now a.marks.now (sym c.is_plain.ensures ∙ c.if-is_plain.false))
     c.write_marked.ensures.form c.write_marked.ensures.too_long

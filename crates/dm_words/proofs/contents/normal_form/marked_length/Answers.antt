@@ -31,9 +31,8 @@ loop-mark-preserved c =
       within = t.within;
       in_order = t.in_order;
       room = omega arith;
-      so_far = count_turn c.args.items.now c.args.marks.now c.loop-mark.before c.loop-mark.mark-index _ _ _
-          c.loop-mark.length c.ascii_form.result.length c.mark_length.result t c.ascii_form.ensures.length
-          c.mark_length.ensures.value c.loop-mark.invariant.so_far;
+      so_far = count_turn _ _ _ _ _ _ _ c.loop-mark.length _ _ t c.ascii_form.ensures.length c.mark_length.ensures.value
+          c.loop-mark.invariant.so_far;
     }
 
 pub overflow_add-result : goal.overflow_add-result

@@ -1,5 +1,4 @@
-use Rattle.dm_words.proofs.Names.{◌∙◌, ◌+◌, drop, sym, arith, rules, Some, None, err_from_is_err_and, content_on}
-use Rattle.dm_words.proofs.Names.{items_with}
+use Rattle.dm_words.proofs.Names.{◌∙◌, sym, arith, rules, Some, None, err_from_is_err_and, items_with}
 use Rattle.dm_words.proofs.ContentLoops.{goes_on, stops_on, one_words_leave}
 use Rattle.dm_words.proofs.contents.reading.add_content_parts.Goals as goal
 
@@ -10,9 +9,8 @@ loop-count-init g c =
     let marks = c.args.marks.now.items in
     record {
       in_range = e.within;
-      content = one_words_leave g.row.ROOM c.args.words.now c.args.start c.one_word_parts-at.result
-          c.args.message.now c.one_word_parts-at.new.message marks c.requires.so_far e.from e.no_fewer
-          e.two_for_each_codeword;
+      content = one_words_leave _ _ _ c.one_word_parts-at.result c.args.message.now c.one_word_parts-at.new.message
+          marks c.requires.so_far e.from e.no_fewer e.two_for_each_codeword;
       count = e.two_for_each_codeword;
       so_far = e.said c.args.extent marks;
     }
@@ -20,11 +18,9 @@ loop-count-init g c =
 pub overflow_add-at : goal.overflow_add-at
 overflow_add-at g c =
     let v = c.loop-count.invariant in
-    let r = goes_on c.args.extent g.row.ROOM c.args.words.now c.args.start c.loop-count.at c.in-Some.count
-    (items_with c.args.marks.now.items c.args.message.now) (items_with c.loop-count.marks.items c.loop-count.message)
-    (items_with c.next_content_part.new.marks.items c.next_content_part.new.message)
-    (content_on c.args.extent (items_with c.args.marks.now.items c.args.message.now) (c.args.start + 1)
-    (drop c.args.start c.args.words.now))
+    let r =
+    goes_on c.args.extent _ _ c.args.start _ c.in-Some.count (items_with c.args.marks.now.items c.args.message.now) _
+    (items_with c.next_content_part.new.marks.items c.next_content_part.new.message) _
     (λ i. omega (arith, c.type_inv.words i)) v.in_range v.content v.count (rw c.in-Some.is at c.in_ok-count.ensures)
     v.so_far in
     omega (arith, r.in_range, c.requires.short)
@@ -32,11 +28,9 @@ overflow_add-at g c =
 pub one_word_parts-at-requires-in-Some : goal.one_word_parts-at-requires-in-Some
 one_word_parts-at-requires-in-Some g c =
     let v = c.loop-count.invariant in
-    let r = goes_on c.args.extent g.row.ROOM c.args.words.now c.args.start c.loop-count.at c.in-Some.count
-    (items_with c.args.marks.now.items c.args.message.now) (items_with c.loop-count.marks.items c.loop-count.message)
-    (items_with c.next_content_part.new.marks.items c.next_content_part.new.message)
-    (content_on c.args.extent (items_with c.args.marks.now.items c.args.message.now) (c.args.start + 1)
-    (drop c.args.start c.args.words.now))
+    let r =
+    goes_on c.args.extent _ _ c.args.start _ c.in-Some.count (items_with c.args.marks.now.items c.args.message.now) _
+    (items_with c.next_content_part.new.marks.items c.next_content_part.new.message) _
     (λ i. omega (arith, c.type_inv.words i)) v.in_range v.content v.count (rw c.in-Some.is at c.in_ok-count.ensures)
     v.so_far in
     (search rules, (r.in_range, (c.requires.short, r.content.item_room)))
@@ -44,19 +38,16 @@ one_word_parts-at-requires-in-Some g c =
 pub loop-count-preserved : goal.loop-count-preserved
 loop-count-preserved g c =
     let v = c.loop-count.invariant in
-    let r = goes_on c.args.extent g.row.ROOM c.args.words.now c.args.start c.loop-count.at c.in-Some.count
-    (items_with c.args.marks.now.items c.args.message.now) (items_with c.loop-count.marks.items c.loop-count.message)
-    (items_with c.next_content_part.new.marks.items c.next_content_part.new.message)
-    (content_on c.args.extent (items_with c.args.marks.now.items c.args.message.now) (c.args.start + 1)
-    (drop c.args.start c.args.words.now))
+    let r =
+    goes_on c.args.extent _ _ c.args.start _ c.in-Some.count (items_with c.args.marks.now.items c.args.message.now) _
+    (items_with c.next_content_part.new.marks.items c.next_content_part.new.message) _
     (λ i. omega (arith, c.type_inv.words i)) v.in_range v.content v.count (rw c.in-Some.is at c.in_ok-count.ensures)
     v.so_far in
     let e = c.one_word_parts-at-in-Some.ensures in
     let marks = c.next_content_part.new.marks.items in
     record {
       in_range = e.within;
-      content = one_words_leave g.row.ROOM c.args.words.now (c.loop-count.at + c.in-Some.count)
-          c.one_word_parts-at-in-Some.result c.next_content_part.new.message
+      content = one_words_leave _ _ _ c.one_word_parts-at-in-Some.result c.next_content_part.new.message
           c.one_word_parts-at-in-Some.new.message marks r.content e.from e.no_fewer e.two_for_each_codeword;
       count = omega (arith, r.count, e.two_for_each_codeword);
       so_far = e.said c.args.extent marks ∙ r.so_far;
@@ -65,11 +56,9 @@ loop-count-preserved g c =
 pub loop-count-smaller : goal.loop-count-smaller
 loop-count-smaller g c =
     let v = c.loop-count.invariant in
-    let r = goes_on c.args.extent g.row.ROOM c.args.words.now c.args.start c.loop-count.at c.in-Some.count
-    (items_with c.args.marks.now.items c.args.message.now) (items_with c.loop-count.marks.items c.loop-count.message)
-    (items_with c.next_content_part.new.marks.items c.next_content_part.new.message)
-    (content_on c.args.extent (items_with c.args.marks.now.items c.args.message.now) (c.args.start + 1)
-    (drop c.args.start c.args.words.now))
+    let r =
+    goes_on c.args.extent _ _ c.args.start _ c.in-Some.count (items_with c.args.marks.now.items c.args.message.now) _
+    (items_with c.next_content_part.new.marks.items c.next_content_part.new.message) _
     (λ i. omega (arith, c.type_inv.words i)) v.in_range v.content v.count (rw c.in-Some.is at c.in_ok-count.ensures)
     v.so_far in
     let e = c.one_word_parts-at-in-Some.ensures in
@@ -78,19 +67,12 @@ loop-count-smaller g c =
 pub returns-clause-read : goal.returns-clause-read
 returns-clause-read g c =
     let took = rw c.in_default.is at c.in_ok-count.ensures in
-    rw took.1
-    (sym (stops_on c.args.extent c.args.words.now c.loop-count.at
-    (items_with c.loop-count.marks.items c.loop-count.message) None
-    (content_on c.args.extent (items_with c.args.marks.now.items c.args.message.now) (c.args.start + 1)
-    (drop c.args.start c.args.words.now)) took.0
-    c.loop-count.invariant.so_far))
+    rw took.1 (sym (stops_on c.args.extent c.args.words.now c.loop-count.at
+    (items_with c.loop-count.marks.items c.loop-count.message) None _ took.0 c.loop-count.invariant.so_far))
 
 pub returns-in_err-count-clause-read : goal.returns-in_err-count-clause-read
 returns-in_err-count-clause-read g c =
     let p = err_from_is_err_and c.from_residual.result c.from_residual.ensures.1 in
-    rw (p.1, p.2)
-    (sym (stops_on c.args.extent c.args.words.now c.loop-count.at
-    (items_with c.loop-count.marks.items c.loop-count.message) (Some c.in_err-count.field-0.0)
-    (content_on c.args.extent (items_with c.args.marks.now.items c.args.message.now) (c.args.start + 1)
-    (drop c.args.start c.args.words.now))
-    c.in_err-count.ensures c.loop-count.invariant.so_far))
+    rw (p.1, p.2) (sym (stops_on c.args.extent c.args.words.now c.loop-count.at
+    (items_with c.loop-count.marks.items c.loop-count.message) (Some c.in_err-count.field-0.0) _ c.in_err-count.ensures
+    c.loop-count.invariant.so_far))

@@ -10,9 +10,7 @@ add_mark-requires g c = (
     search rules,
     (
       c.requires.most,
-      mark_fits g.row.ROOM g.row.MARKS c.args.words.now c.args.at
-          (items_with c.args.marks.now.items c.args.message.now) c.requires.marks c.requires.so_far
-          c.requires.in_range c.requires.eci,
+      mark_fits _ g.row.MARKS _ _ _ c.requires.marks c.requires.so_far c.requires.in_range c.requires.eci,
     ),
   ),
 )

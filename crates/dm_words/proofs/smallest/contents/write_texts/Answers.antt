@@ -1,6 +1,6 @@
-use Rattle.dm_words.proofs.Names.{◌≡◌, ◌∙◌, ℕ, ◌+◌, ◌-◌, ◌∷◌, length, take, drop, get_or, ap, sym, subst, arith, refl}
-use Rattle.dm_words.proofs.Names.{rules, length-append, length-take, length-drop, All-drop, All-take, eci_word}
-use Rattle.dm_words.proofs.Names.{designator, spelled, AreMarks, IsItem, before_words, parts_cost, marked_cost}
+use Rattle.dm_words.proofs.Names.{◌≡◌, ◌∙◌, ℕ, ◌+◌, ◌-◌, ◌∷◌, length, take, drop, get_or, ap, sym, arith, refl, rules}
+use Rattle.dm_words.proofs.Names.{length-append, length-take, length-drop, All-drop, All-take, eci_word, designator}
+use Rattle.dm_words.proofs.Names.{spelled, IsItem, before_words, parts_cost, marked_cost}
 use Rattle.dm_words.proofs.ContentWritten.{nothing_said, texts_turn, texts_end}
 use Rattle.dm_words.proofs.MarkedCosts.{forth, behind_few}
 use Rattle.dm_words.proofs.PlainForms.{sign_turn, sign_end}
@@ -12,8 +12,7 @@ loop-k-init g c =
     record {
       within = omega arith;
       steps = c.requires.steps;
-      in_order = subst
-          (λ (p : ℕ). AreMarks p (c.args.seen + length c.args.items.now) c.args.marks.now) here c.requires.in_order;
+      in_order = rw (← here) c.requires.in_order;
       said = nothing_said c.args.total c.args.words.now.items c.args.seen;
       budget = omega (arith, ap (λ (p : ℕ). marked_cost p c.args.items.now c.args.marks.now) here);
       first = λ e. (refl, refl);
@@ -70,16 +69,13 @@ loop-k-preserved g c =
     let from = c.loop-k.from in
     let m = get_or marks k (record { place = 0; number = 0 }) in
     let f = forth seen items marks k from (record { place = 0; number = 0 }) c.loop-k-test.true v.in_order in
-    let behind = c.requires.behind k c.loop-k-test.true in
     let new = c.write_text.new.words.items in
     record {
       within = omega (arith, f.within, c.from.ensures);
       steps = search rules;
-      in_order = subst (λ (p : ℕ). AreMarks (seen + (p - seen)) (seen + length items) (drop (k + 1) marks))
-          (sym c.from.ensures) f.in_order;
-      said = texts_turn c.args.total c.args.words.now.items c.loop-k.words.items new c.add_mark_words.new.words.items
-          seen items marks k from _ _ _ (c.from.result - seen) f (ap (λ (p : ℕ). p - seen) c.from.ensures) v.said
-          c.write_text.ensures.parts c.add_mark_words.ensures;
+      in_order = rw (sym c.from.ensures) at f.in_order;
+      said = texts_turn _ _ _ _ _ _ _ _ k _ _ _ _ (c.from.result - seen) f (ap (λ (p : ℕ). p - seen) c.from.ensures)
+          v.said c.write_text.ensures.parts c.add_mark_words.ensures;
       budget = omega (
         arith,
         ap length c.add_mark_words.ensures,
@@ -97,8 +93,7 @@ loop-k-preserved g c =
 pub returns-clause-said : goal.returns-clause-said
 returns-clause-said g c =
     let v = c.loop-k.invariant in
-    texts_end c.args.total c.args.words.now.items c.loop-k.words.items c.write_text-2.new.words.items c.args.seen
-    c.args.items.now c.args.marks.now c.loop-k.k c.loop-k.from c.loop-k-test.false v.said
+    texts_end _ _ _ _ _ c.args.items.now c.args.marks.now c.loop-k.k c.loop-k.from c.loop-k-test.false v.said
     c.write_text-2.ensures.parts
 
 pub returns-clause-sign : goal.returns-clause-sign

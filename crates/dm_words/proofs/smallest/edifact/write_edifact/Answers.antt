@@ -1,11 +1,11 @@
-use Rattle.dm_words.proofs.Names.{inl, inr, arith, ap, subst, ◌≡◌, ℕ, ◌-◌, List, length, take, drop, rules, Item, Fnc1}
-use Rattle.dm_words.proofs.Names.{parts_cost}
+use Rattle.dm_words.proofs.Names.{inl, inr, arith, ap, ◌≡◌, ℕ, ◌-◌, length, take, drop, rules, Fnc1, parts_cost}
 use Rattle.dm_words.specs.declared.smallest.edifact.Group.TheVariants as group
-use Rattle.dm_words.proofs.GroupsWritten.{edifact_begun, edifact_item, edifact_written, IsEdifactSoFar}
-use Rattle.dm_words.proofs.GroupBudget.{first_of_groups, group_at, leave_groups, after_value, value_room, waiting_room}
-use Rattle.dm_words.proofs.GroupBudget.{ended_budget}
+use Rattle.dm_words.proofs.GroupsWritten.{edifact_begun, edifact_item, edifact_written}
+use Rattle.dm_words.proofs.GroupBudget.{IsGroupPaidAt, first_of_groups, group_at, leave_groups, after_value, value_room}
+use Rattle.dm_words.proofs.GroupBudget.{waiting_room, ended_budget}
 use Rattle.dm_words.proofs.RunWritten.{run_some}
 use Rattle.dm_words.proofs.smallest.edifact.write_edifact.Goals as goal
+use Rattle.dm_words.proofs.smallest.edifact.write_edifact.Goals.{In-loop-words}
 
 pub loop-words-init : goal.loop-words-init
 loop-words-init g c =
@@ -19,57 +19,39 @@ loop-words-init g c =
       wide = f.wide;
       budget = after_value group.Empty c.push_value-group.result _ c.args.total c.push.new.self.items
           c.push_value-group.new.words.items _ c.push_value-group.ensures f.budget;
-      so_far = edifact_item c.args.words.now.items c.push.new.self.items c.push_value-group.new.words.items
-          group.Empty c.push_value-group.result c.args.items.now c.args.at c.args.at Fnc1 c.byte.result f.byte
-          (omega arith) c.requires.at f.is f.low f.high c.byte.ensures
-          (subst (λ (l : List Item). IsEdifactSoFar c.args.words.now.items c.push.new.self.items group.Empty l)
-          (ap (λ (k : ℕ). take k (drop c.args.at c.args.items.now)) zero_is) begun) c.push_value-group.ensures;
+      so_far = edifact_item c.args.words.now.items c.push.new.self.items c.push_value-group.new.words.items group.Empty
+          c.push_value-group.result c.args.items.now c.args.at c.args.at Fnc1 c.byte.result f.byte (omega arith)
+          c.requires.at f.is f.low f.high c.byte.ensures
+          (rw (ap (λ (k : ℕ). take k (drop c.args.at c.args.items.now)) zero_is) at begun) c.push_value-group.ensures;
     } where
       zero_is : 0 ≡ c.args.at - c.args.at
       zero_is = omega arith
 
-pub bounds-items-next : goal.bounds-items-next
-bounds-items-next g c =
-    (group_at c.args.setting c.args.items.now c.loop-words.next Fnc1 _ c.loop-words.group
+-- Each item is paid where the run goes on.
+goes : (g : _) (c : In-loop-words g)
+    → IsGroupPaidAt c.args.setting c.args.items.now c.loop-words.next Fnc1 c.loop-words.group
+    (length c.loop-words.words.items) c.args.total
+goes g c =
+    group_at c.args.setting c.args.items.now c.loop-words.next Fnc1 _ c.loop-words.group
     (length c.loop-words.words.items) c.args.total c.goes_on.result
     (c.requires.plan c.loop-words.next _ c.loop-words.invariant.within) c.loop-words.invariant.budget
-    (omega (arith, c.requires.total)) c.goes_on.ensures c.loop-words-test.true).there
+    (omega (arith, c.requires.total)) c.goes_on.ensures c.loop-words-test.true
+
+pub bounds-items-next : goal.bounds-items-next
+bounds-items-next g c = (goes g (goal.at.bounds-items-next g c).In-loop-words).there
 
 pub push_value-group-requires-in-loop-words : goal.push_value-group-requires-in-loop-words
-push_value-group-requires-in-loop-words g c = (
-  search rules,
-  (
-    search rules,
-    (
-      search rules,
-      omega (
-        arith,
-        value_room c.loop-words.group (length c.loop-words.words.items) c.args.total _
-            (group_at c.args.setting c.args.items.now c.loop-words.next Fnc1 _ c.loop-words.group
-            (length c.loop-words.words.items) c.args.total c.goes_on.result
-            (c.requires.plan c.loop-words.next _ c.loop-words.invariant.within) c.loop-words.invariant.budget
-            (omega (arith, c.requires.total)) c.goes_on.ensures c.loop-words-test.true).budget,
-      ),
-    ),
-  ),
-)
+push_value-group-requires-in-loop-words g c =
+    let b = goes g (goal.at.push_value-group-requires-in-loop-words g c).In-loop-words in
+    (search rules, (search rules, (search rules, omega (arith, value_room _ _ _ _ b.budget))))
 
 pub loop-words-smaller : goal.loop-words-smaller
-loop-words-smaller g c =
-    omega (
-      arith,
-      (group_at c.args.setting c.args.items.now c.loop-words.next Fnc1 _ c.loop-words.group
-          (length c.loop-words.words.items) c.args.total c.goes_on.result
-          (c.requires.plan c.loop-words.next _ c.loop-words.invariant.within) c.loop-words.invariant.budget
-          (omega (arith, c.requires.total)) c.goes_on.ensures c.loop-words-test.true).there,
-    )
+loop-words-smaller g c = omega (arith, (goes g (goal.at.loop-words-smaller g c).In-loop-words).there)
 
 pub loop-words-preserved : goal.loop-words-preserved
 loop-words-preserved g c =
     let v = c.loop-words.invariant in
-    let r = group_at c.args.setting c.args.items.now c.loop-words.next Fnc1 _ c.loop-words.group
-    (length c.loop-words.words.items) c.args.total c.goes_on.result (c.requires.plan c.loop-words.next _ v.within)
-    v.budget (omega (arith, c.requires.total)) c.goes_on.ensures c.loop-words-test.true in
+    let r = goes g (goal.at.loop-words-preserved g c).In-loop-words in
     record {
       from = omega (arith, v.from);
       within = omega (arith, r.there);
@@ -77,11 +59,10 @@ loop-words-preserved g c =
       budget = after_value c.loop-words.group c.push_value-group-in-loop-words.result _ c.args.total
           c.loop-words.words.items c.push_value-group-in-loop-words.new.words.items _
           c.push_value-group-in-loop-words.ensures r.budget;
-      so_far = edifact_item c.args.words.now.items c.loop-words.words.items
-          c.push_value-group-in-loop-words.new.words.items c.loop-words.group c.push_value-group-in-loop-words.result
-          c.args.items.now c.args.at c.loop-words.next Fnc1 c.byte-in-loop-words.result r.byte
-          (omega (arith, v.from)) r.there r.is r.low r.high c.byte-in-loop-words.ensures v.so_far
-          c.push_value-group-in-loop-words.ensures;
+      so_far =
+          edifact_item _ _ c.push_value-group-in-loop-words.new.words.items _ c.push_value-group-in-loop-words.result
+          c.args.items.now c.args.at c.loop-words.next Fnc1 _ r.byte (omega (arith, v.from)) r.there r.is r.low r.high
+          c.byte-in-loop-words.ensures v.so_far c.push_value-group-in-loop-words.ensures;
     }
 
 pub end_run-requires : goal.end_run-requires
@@ -93,12 +74,10 @@ end_run-requires g c =
 pub returns-clause-budget : goal.returns-clause-budget
 returns-clause-budget g c =
     ended_budget c.loop-words.group c.args.total (parts_cost c.args.setting (drop c.loop-words.next c.args.items.now))
-    c.loop-words.words.items c.end_run.new.words.items
-    (leave_groups c.args.setting (drop c.loop-words.next c.args.items.now) _ c.loop-words.group
-    (length c.loop-words.words.items) c.args.total c.goes_on.result
-    (c.requires.plan c.loop-words.next _ c.loop-words.invariant.within) c.loop-words.invariant.budget
-    c.goes_on.ensures c.loop-words-test.false)
-    c.end_run.ensures
+    c.loop-words.words.items c.end_run.new.words.items (leave_groups c.args.setting
+    (drop c.loop-words.next c.args.items.now) _ c.loop-words.group (length c.loop-words.words.items) c.args.total _
+    (c.requires.plan c.loop-words.next _ c.loop-words.invariant.within) c.loop-words.invariant.budget c.goes_on.ensures
+    c.loop-words-test.false) c.end_run.ensures
 
 pub returns-clause-part : goal.returns-clause-part
 returns-clause-part g c =

@@ -3,10 +3,11 @@ use Rattle.dm_words.proofs.Names.{rules, length-append, take_rest, drop_all, All
 use Rattle.dm_words.proofs.Names.{byte_of, IsItem, digit_pair, has_fnc1, parts_cost, unit_words}
 use Rattle.dm_words.proofs.CostsMet.{nothing_costs}
 use Rattle.dm_words.proofs.SegmentBudget.{rest_is}
-use Rattle.dm_words.proofs.PartBudget.{one_paid, pair_paid, run_paid, edifact_paid, segment_paid, rest_paid}
+use Rattle.dm_words.proofs.PartBudget.{IsPairAt, one_paid, pair_paid, run_paid, edifact_paid, segment_paid, rest_paid}
 use Rattle.dm_words.proofs.UnitWritten.{length-item_words, digit_byte, one_written, two_written}
 use Rattle.dm_words.proofs.SignParts.{one_passes, two_passes, other_passes}
 use Rattle.dm_words.proofs.smallest.parts.write_part.Goals as goal
+use Rattle.dm_words.proofs.smallest.parts.write_part.Goals.{After-byte}
 
 pub write_unit-one-requires : goal.write_unit-one-requires
 write_unit-one-requires g c =
@@ -30,8 +31,7 @@ returns-in-One-clause-budget g c =
 
 pub returns-in-One-clause-part : goal.returns-in-One-clause-part
 returns-in-One-clause-part g c =
-    one_written c.args.setting.extent c.args.total c.args.words.now.items c.write_unit-one.new.words.items
-    (unit_words c.unit_of.result) c.args.items.now c.args.at Fnc1
+    one_written c.args.setting.extent c.args.total c.args.words.now.items _ _ c.args.items.now c.args.at Fnc1
     c.requires.at c.requires.message c.unit_of.ensures.words c.write_unit-one.ensures.words
 
 pub returns-in-One-clause-usual : goal.returns-in-One-clause-usual
@@ -40,76 +40,52 @@ returns-in-One-clause-usual g c =
     (unit_words c.unit_of.result) c.args.items.now c.args.at Fnc1
     c.requires.at c.requires.message c.unit_of.ensures.words c.write_unit-one.ensures.words
 
-pub bounds-items-at-in-Two-2 : goal.bounds-items-at-in-Two-2
-bounds-items-at-in-Two-2 g c =
-    (pair_paid c.args.setting c.args.items.now c.args.at Fnc1 _ c.requires.at
+-- Two digits that the plan begins with are there, and paid.
+pair : (g : _) (c : After-byte g)
+    → IsPairAt c.args.setting c.args.items.now c.args.at Fnc1 (length c.args.words.now.items) c.args.total
+pair g c =
+    pair_paid c.args.setting c.args.items.now c.args.at Fnc1 _ c.requires.at
     (c.requires.plan c.args.at _ (omega (arith, c.requires.at))) (length c.args.words.now.items) c.args.total
-    c.requires.budget (omega (arith, c.requires.total)) (sym c.begin.ensures ∙ c.in-Two.is)).second_there
+    c.requires.budget (omega (arith, c.requires.total)) (sym c.begin.ensures ∙ c.in-Two.is)
+
+pub bounds-items-at-in-Two-2 : goal.bounds-items-at-in-Two-2
+bounds-items-at-in-Two-2 g c = (pair g (goal.at.bounds-items-at-in-Two-2 g c).After-byte).second_there
 
 pub digit_pair-requires-clause-tens : goal.digit_pair-requires-clause-tens
 digit_pair-requires-clause-tens g c =
-    digit_byte (get_or c.args.items.now c.args.at Fnc1) c.byte.result
-    (pair_paid c.args.setting c.args.items.now c.args.at Fnc1 _ c.requires.at
-    (c.requires.plan c.args.at _ (omega (arith, c.requires.at))) (length c.args.words.now.items) c.args.total
-    c.requires.budget (omega (arith, c.requires.total)) (sym c.begin.ensures ∙ c.in-Two.is)).first
-    c.byte.ensures
+    let q = pair g (goal.at.digit_pair-requires-clause-tens g c).After-byte in
+    digit_byte (get_or c.args.items.now c.args.at Fnc1) _ q.first c.byte.ensures
 
 pub digit_pair-requires-clause-ones : goal.digit_pair-requires-clause-ones
 digit_pair-requires-clause-ones g c =
-    digit_byte (get_or c.args.items.now (c.args.at + 1) Fnc1) c.byte-in-Two.result
-    (pair_paid c.args.setting c.args.items.now c.args.at Fnc1 _ c.requires.at
-    (c.requires.plan c.args.at _ (omega (arith, c.requires.at))) (length c.args.words.now.items) c.args.total
-    c.requires.budget (omega (arith, c.requires.total)) (sym c.begin.ensures ∙ c.in-Two.is)).second
-    c.byte-in-Two.ensures
+    let q = pair g (goal.at.digit_pair-requires-clause-ones g c).After-byte in
+    digit_byte (get_or c.args.items.now (c.args.at + 1) Fnc1) _ q.second c.byte-in-Two.ensures
 
 pub push-requires : goal.push-requires
 push-requires g c =
-    let q = pair_paid c.args.setting c.args.items.now c.args.at Fnc1 _ c.requires.at
-    (c.requires.plan c.args.at _ (omega (arith, c.requires.at))) (length c.args.words.now.items) c.args.total
-    c.requires.budget (omega (arith, c.requires.total)) (sym c.begin.ensures ∙ c.in-Two.is) in
-    (omega arith, omega (arith, q.paid, c.requires.total))
+    let q = pair g (goal.at.push-requires g c).After-byte in (omega arith, omega (arith, q.paid, c.requires.total))
 
 pub returns-in-Two-clause-within : goal.returns-in-Two-clause-within
-returns-in-Two-clause-within g c =
-    omega (
-      arith,
-      (pair_paid c.args.setting c.args.items.now c.args.at Fnc1 _ c.requires.at
-          (c.requires.plan c.args.at _ (omega (arith, c.requires.at))) (length c.args.words.now.items) c.args.total
-          c.requires.budget (omega (arith, c.requires.total)) (sym c.begin.ensures ∙ c.in-Two.is)).second_there,
-    )
+returns-in-Two-clause-within g c = let q = pair g (goal.at.returns-in-Two-clause-within g c).After-byte in omega arith
 
 pub returns-in-Two-clause-budget : goal.returns-in-Two-clause-budget
-returns-in-Two-clause-budget g c =
-    omega (
-      arith,
-      (pair_paid c.args.setting c.args.items.now c.args.at Fnc1 _ c.requires.at
-          (c.requires.plan c.args.at _ (omega (arith, c.requires.at))) (length c.args.words.now.items) c.args.total
-          c.requires.budget (omega (arith, c.requires.total)) (sym c.begin.ensures ∙ c.in-Two.is)).paid,
-    )
+returns-in-Two-clause-budget g c = let q = pair g (goal.at.returns-in-Two-clause-budget g c).After-byte in omega arith
 
 pub returns-in-Two-clause-part : goal.returns-in-Two-clause-part
 returns-in-Two-clause-part g c =
-    let q = pair_paid c.args.setting c.args.items.now c.args.at Fnc1 _ c.requires.at
-    (c.requires.plan c.args.at _ (omega (arith, c.requires.at))) (length c.args.words.now.items) c.args.total
-    c.requires.budget (omega (arith, c.requires.total)) (sym c.begin.ensures ∙ c.in-Two.is) in
-    let word : c.digit_pair.result
-    ≡ digit_pair (byte_of (get_or c.args.items.now c.args.at Fnc1))
-    (byte_of (get_or c.args.items.now (c.args.at + 1) Fnc1)) =
-    c.digit_pair.ensures ∙ ap (λ (b : ℕ). digit_pair b c.byte-in-Two.result) c.byte.ensures
-    ∙ ap (λ (b : ℕ). digit_pair (byte_of (get_or c.args.items.now c.args.at Fnc1)) b) c.byte-in-Two.ensures in
+    let q = pair g (goal.at.returns-in-Two-clause-part g c).After-byte in
+    let word : c.digit_pair.result ≡ digit_pair (byte_of (get_or c.args.items.now c.args.at Fnc1))
+    (byte_of (get_or c.args.items.now (c.args.at + 1) Fnc1)) = cc
+    (c.digit_pair.ensures, c.byte.ensures, c.byte-in-Two.ensures) in
     two_written c.args.setting.extent c.args.total c.args.words.now.items c.push.new.self.items c.digit_pair.result
     c.args.items.now c.args.at Fnc1 q.second_there q.first q.second word c.push.ensures.items
 
 pub returns-in-Two-clause-usual : goal.returns-in-Two-clause-usual
 returns-in-Two-clause-usual g c = λ usual.
-    let q = pair_paid c.args.setting c.args.items.now c.args.at Fnc1 _ c.requires.at
-    (c.requires.plan c.args.at _ (omega (arith, c.requires.at))) (length c.args.words.now.items) c.args.total
-    c.requires.budget (omega (arith, c.requires.total)) (sym c.begin.ensures ∙ c.in-Two.is) in
-    let word : c.digit_pair.result
-    ≡ digit_pair (byte_of (get_or c.args.items.now c.args.at Fnc1))
-    (byte_of (get_or c.args.items.now (c.args.at + 1) Fnc1)) =
-    c.digit_pair.ensures ∙ ap (λ (b : ℕ). digit_pair b c.byte-in-Two.result) c.byte.ensures
-    ∙ ap (λ (b : ℕ). digit_pair (byte_of (get_or c.args.items.now c.args.at Fnc1)) b) c.byte-in-Two.ensures in
+    let q = pair g (goal.at.returns-in-Two-clause-usual g c).After-byte in
+    let word : c.digit_pair.result ≡ digit_pair (byte_of (get_or c.args.items.now c.args.at Fnc1))
+    (byte_of (get_or c.args.items.now (c.args.at + 1) Fnc1)) = cc
+    (c.digit_pair.ensures, c.byte.ensures, c.byte-in-Two.ensures) in
     two_written Usual c.args.total c.args.words.now.items c.push.new.self.items c.digit_pair.result c.args.items.now
     c.args.at Fnc1 q.second_there q.first q.second word c.push.ensures.items
 
@@ -195,14 +171,10 @@ returns-in-One-clause-sign g c =
 
 pub returns-in-Two-clause-sign : goal.returns-in-Two-clause-sign
 returns-in-Two-clause-sign g c =
-    let q = pair_paid c.args.setting c.args.items.now c.args.at Fnc1 _ c.requires.at
-    (c.requires.plan c.args.at _ (omega (arith, c.requires.at))) (length c.args.words.now.items) c.args.total
-    c.requires.budget (omega (arith, c.requires.total)) (sym c.begin.ensures ∙ c.in-Two.is) in
-    let word : c.digit_pair.result
-    ≡ digit_pair (byte_of (get_or c.args.items.now c.args.at Fnc1))
-    (byte_of (get_or c.args.items.now (c.args.at + 1) Fnc1)) =
-    c.digit_pair.ensures ∙ ap (λ (b : ℕ). digit_pair b c.byte-in-Two.result) c.byte.ensures
-    ∙ ap (λ (b : ℕ). digit_pair (byte_of (get_or c.args.items.now c.args.at Fnc1)) b) c.byte-in-Two.ensures in
+    let q = pair g (goal.at.returns-in-Two-clause-sign g c).After-byte in
+    let word : c.digit_pair.result ≡ digit_pair (byte_of (get_or c.args.items.now c.args.at Fnc1))
+    (byte_of (get_or c.args.items.now (c.args.at + 1) Fnc1)) = cc
+    (c.digit_pair.ensures, c.byte.ensures, c.byte-in-Two.ensures) in
     two_passes c.args.items.now c.args.at Fnc1 c.args.words.now.items c.push.new.self.items q.second_there
     q.first q.second c.digit_pair.result word c.push.ensures.items
 

@@ -1,5 +1,5 @@
-use Rattle.dm_words.proofs.Names.{◌≡◌, ◌∙◌, ℕ, ◌+◌, ◌-◌, ◌++◌, List, take, drop, ap, sym, subst, arith, drop_all}
-use Rattle.dm_words.proofs.Names.{take-add, Extent, Usual, Item, IsPartWritten, ArePartsWritten, parts_cost}
+use Rattle.dm_words.proofs.Names.{◌≡◌, ◌+◌, ◌-◌, ◌++◌, List, take, drop, ap, subst, arith, drop_all, take-add, Extent}
+use Rattle.dm_words.proofs.Names.{Usual, Item, IsPartWritten, ArePartsWritten, parts_cost}
 use Rattle.std.proofs.lemmas.Bool.{and_parts}
 use Rattle.dm_words.proofs.CostsMet.{nothing_costs}
 use Rattle.dm_words.proofs.PartsWritten.{no_parts, parts_more}
@@ -25,13 +25,10 @@ loop-at-preserved g c =
     let old = c.loop-at.words.items in
     let new = c.write_part-part.new.words.items in
     let sum : at + (next - at) ≡ next = omega (arith, w.further) in
-    let more : take at m ++ take (next - at) (drop at m) ≡ take next m = sym (take-add at (next - at) m)
-    ∙ ap (λ (k : ℕ). take k m) sum in
-    let joined =
-    λ (e : Extent) (before : ArePartsWritten e c.args.total base old (take at m))
-    (part : IsPartWritten e c.args.total old new (take (next - at) (drop at m))).
-    subst (λ (l : List Item). ArePartsWritten e c.args.total base new l) more
-    (parts_more e c.args.total base old new (take at m) (take (next - at) (drop at m)) before part) in
+    let more : take at m ++ take (next - at) (drop at m) ≡ take next m = cc (take-add at (next - at) m) in
+    let joined = λ (e : Extent) (before : ArePartsWritten e c.args.total base old (take at m))
+    (part : IsPartWritten e c.args.total old new (take (next - at) (drop at m))). subst
+    (λ (l : List Item). ArePartsWritten e c.args.total base new l) more (parts_more e _ _ _ _ _ _ before part) in
     record {
       within = w.within;
       budget = w.budget;
@@ -39,8 +36,7 @@ loop-at-preserved g c =
       usual = λ all.
           (let each = and_parts c.loop-at.are_usual c.write_part-part.result.is_usual all in
           joined Usual (c.loop-at.invariant.usual each.0) (w.usual each.1));
-      sign = passes_on base old new w.part.part m (drop at m) (drop next m) w.part.whole
-          c.loop-at.invariant.sign w.sign;
+      sign = passes_on base old _ w.part.part m (drop at m) (drop next m) w.part.whole c.loop-at.invariant.sign w.sign;
     }
 
 pub returns-clause-fits : goal.returns-clause-fits

@@ -1,7 +1,6 @@
-use Rattle.dm_words.proofs.Names.{◌≡◌, ◌∙◌, ◌+◌, ◌-◌, ◌∷◌, ◌&&◌, Bool, cond, sym, ℕ, drop, get_or, rules, ap, subst}
-use Rattle.dm_words.proofs.Names.{arith, List, length, refl, inl, inr, drop_all, length-drop, Item, ascii, IsItem}
-use Rattle.dm_words.proofs.Names.{pair_first, unit_cost, Fnc1, Row, row, going_over, is_digit_item, with_ascii}
-use Rattle.dm_words.proofs.Names.{begin_at, step_in, none_going, HasRow}
+use Rattle.dm_words.proofs.Names.{◌≡◌, ◌∙◌, ◌+◌, ◌-◌, ◌∷◌, ◌&&◌, cond, sym, ℕ, drop, get_or, rules, ap, subst, arith}
+use Rattle.dm_words.proofs.Names.{List, length, refl, inl, inr, drop_all, length-drop, Item, ascii, IsItem, pair_first}
+use Rattle.dm_words.proofs.Names.{unit_cost, Fnc1, Row, row, going_over, with_ascii, begin_at, step_in, none_going}
 use Rattle.std.proofs.lemmas.Bool.{cases_eq}
 use Rattle.std.proofs.lemmas.List.{get_or_default}
 use Rattle.dm_words.proofs.NormalForms.{two_words}
@@ -108,9 +107,7 @@ loop-at-preserved c =
     let new = with_ascii choice.cost next.ascii g in
     let behind = c.loop-at.digit_behind in
     let pair = c.is_digit_item-digit.result && behind in
-    let is_pair : pair ≡ pair_first (x ∷ drop at m) =
-    ap (λ (b : Bool). b && behind) c.is_digit_item-digit.ensures.digit
-    ∙ ap (λ (b : Bool). is_digit_item x && b) v.digit in
+    let is_pair : pair ≡ pair_first (x ∷ drop at m) = cc in
     let at_again : at ≡ at - 1 + 1 = omega (arith, c.loop-at-test.true) in
     let t = turn setting m at x Fnc1 next new pair g (begin_at choice.begins) choice.cost
     (step_in c.step_of-in-loop-at.result) (omega (arith, c.loop-at-test.true)) v.in_range refl refl
@@ -125,8 +122,7 @@ loop-at-preserved c =
       room = search rules;
       digit = c.is_digit_item-digit.ensures.digit
           ∙ digit_here m at x Fnc1 (omega (arith, c.loop-at-test.true)) v.in_range refl;
-      row = subst (λ (r : Row). HasRow r c.with_ascii-costs-in-loop-at.result)
-          (ap (λ (n : ℕ). with_ascii choice.cost n g) v.row.ascii ∙ t.0)
+      row = rw (ap (λ (n : ℕ). with_ascii choice.cost n g) v.row.ascii ∙ t.0) at
           (c.with_ascii-costs-in-loop-at.ensures g small going);
       in_ascii = c.ascii_from-length.ensures
           ∙ ap (λ (n : ℕ). cond pair (1 + n) (unit_cost x + c.loop-at.ascii)) v.in_ascii_behind
@@ -145,9 +141,7 @@ loop-at-preserved c =
 
 pub returns-clause-ascii : goal.returns-clause-ascii
 returns-clause-ascii c =
-    c.loop-at.invariant.in_ascii
-    ∙ ap (λ (i : ℕ). length (ascii (drop i c.args.items.now)))
-    (let none : c.loop-at.at ≡ 0 = omega (arith, c.loop-at-test.false) in none)
+    cc (c.loop-at.invariant.in_ascii, (let none : c.loop-at.at ≡ 0 = omega (arith, c.loop-at-test.false) in none))
 
 pub returns-clause-message : goal.returns-clause-message
 returns-clause-message c = λ i other to. c.loop-at.invariant.message i other (omega (arith, c.loop-at-test.false)) to

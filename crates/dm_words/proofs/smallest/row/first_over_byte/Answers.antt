@@ -9,7 +9,6 @@ returns-then-byte-lt128 c first second bytes rest h =
 
 pub returns : goal.returns
 returns c first second bytes rest h =
-    first_high c.args.byte first second _ _ _ c.if-byte-lt128.false
-    (c.first_over-2.ensures (values_before 2 first) (values_before 2 second) bytes rest _ _ _ _ c.sets_of-2.ensures
-    (raised_next first second bytes rest c.args.next c.first_raised.result h
+    first_high c.args.byte first second _ _ _ c.if-byte-lt128.false (c.first_over-2.ensures (values_before 2 first)
+    (values_before 2 second) bytes rest _ _ _ _ c.sets_of-2.ensures (raised_next _ _ _ _ _ c.first_raised.result h
     (c.first_raised.ensures first second bytes rest (next_first _ _ _ _ _ h))))

@@ -4,12 +4,10 @@ use Rattle.dm_words.proofs.smallest.row.going_over.Goals as goal
 
 pub returns-in-Fnc1 : goal.returns-in-Fnc1
 returns-in-Fnc1 c r w h =
-    over_fnc1 c.args.extent c.args.item r _ c.in-Fnc1.is
-    (c.first_over_fnc1.ensures _ _ _ _ (next_first _ _ _ _ _ (row_next r c.args.next.now w h))) c.no_second.ensures
-    refl
+    over_fnc1 c.args.extent _ r _ c.in-Fnc1.is
+    (c.first_over_fnc1.ensures _ _ _ _ (next_first _ _ _ _ _ (row_next r _ w h))) c.no_second.ensures refl
 
 pub returns-in-Byte : goal.returns-in-Byte
 returns-in-Byte c r w h =
-    over_byte c.args.extent c.args.item c.in-Byte.byte r c.args.next.now _ c.in-Byte.is h
-    (c.first_over_byte.ensures _ _ _ _ (row_next r c.args.next.now w h))
-    (c.second_over_byte.ensures _ _ (row_second r c.args.next.now w h)) refl
+    over_byte c.args.extent _ c.in-Byte.byte r _ _ c.in-Byte.is h (c.first_over_byte.ensures _ _ _ _ (row_next r _ w h))
+    (c.second_over_byte.ensures _ _ (row_second r _ w h)) refl

@@ -1,4 +1,4 @@
-use Rattle.dm_words.proofs.Names.{rules, arith, refl, length-take, part_values}
+use Rattle.dm_words.proofs.Names.{rules, arith, refl, length-take}
 use Rattle.dm_words.proofs.RunWritten.{pushed_lengths, next_pushed}
 use Rattle.dm_words.proofs.smallest.run.push_values.Goals as goal
 
@@ -18,7 +18,6 @@ push_value-part-requires g c =
 pub loop-value-preserved : goal.loop-value-preserved
 loop-value-preserved g c =
     record {
-      pushed = next_pushed c.args.words.now.items (part_values c.args.part) c.args.values.now c.loop-value.words.items
-          _ c.loop-value.part c.push_value-part.result c.loop-value.value-index _ 0
+      pushed = next_pushed _ _ c.args.values.now _ _ _ c.push_value-part.result c.loop-value.value-index _ 0
           c.loop-value-test.true refl (search rules) c.loop-value.invariant.pushed c.push_value-part.ensures;
     }

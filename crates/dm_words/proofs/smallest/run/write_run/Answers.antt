@@ -1,26 +1,40 @@
-use Rattle.dm_words.proofs.Names.{arith, get_or, ap, subst, ◌≡◌, ℕ, ◌-◌, List, length, take, drop, rules, Item, Fnc1}
-use Rattle.dm_words.proofs.Names.{Waiting, part_values, IsItemPushed, parts_cost}
+use Rattle.dm_words.proofs.Names.{arith, ap, subst, ◌≡◌, ℕ, ◌-◌, List, length, take, drop, rules, Item, Fnc1, Waiting}
+use Rattle.dm_words.proofs.Names.{part_values, parts_cost}
 use Rattle.dm_words.proofs.LowerBounds.{leave_bounds}
 use Rattle.dm_words.proofs.RunWritten.{run_begun, run_more, run_some, written_unlatch, written_bare, IsRunSoFar}
-use Rattle.dm_words.proofs.RunBudget.{unlatched, first_at, run_at, item_room, after_item, one_more, leave_at}
+use Rattle.dm_words.proofs.RunBudget.{IsPaidAt, unlatched, first_at, run_at, item_room, after_item, one_more, leave_at}
 use Rattle.dm_words.proofs.smallest.run.write_run.Goals as goal
+use Rattle.dm_words.proofs.smallest.run.write_run.Goals.{After-push, In-loop-set}
+
+-- The first item of the run is paid.
+begins : (g : _) (c : After-push g)
+    → IsPaidAt c.args.setting c.args.set c.args.items.now c.args.at Fnc1 Waiting.Empty (length c.push.new.self.items)
+    c.args.total
+begins g c =
+    first_at c.args.setting c.args.set c.args.items.now c.args.at Fnc1 (length c.push.new.self.items) c.args.total
+    c.requires.at (omega (arith, c.requires.budget, c.push.ensures.len)) (omega (arith, c.requires.total))
+
+-- So is each item where the run goes on.
+goes : (g : _) (c : In-loop-set g)
+    → IsPaidAt c.args.setting c.args.set c.args.items.now c.loop-set.next Fnc1 c.loop-set.part
+    (length c.loop-set.words.items) c.args.total
+goes g c =
+    run_at c.args.setting c.args.set c.args.items.now c.loop-set.next Fnc1 _ c.loop-set.part
+    (length c.loop-set.words.items) c.args.total c.goes_on.result
+    (c.requires.plan c.loop-set.next _ c.loop-set.invariant.within) c.loop-set.invariant.budget
+    (omega (arith, c.requires.total)) c.goes_on.ensures c.loop-set-test.true
 
 pub push_spelling-part-requires : goal.push_spelling-part-requires
 push_spelling-part-requires g c =
-    let held =
-    (first_at c.args.setting c.args.set c.args.items.now c.args.at Fnc1 (length c.push.new.self.items) c.args.total
-    c.requires.at (omega (arith, c.requires.budget, c.push.ensures.len)) (omega (arith, c.requires.total))).held in (
+    let b = begins g (goal.at.push_spelling-part-requires g c).After-push in (
       search rules,
       (
-        held,
+        b.held,
         (
           search rules,
           omega (
             arith,
-            item_room _ _ _ _
-                (first_at c.args.setting c.args.set c.args.items.now c.args.at Fnc1 (length c.push.new.self.items)
-                c.args.total c.requires.at (omega (arith, c.requires.budget, c.push.ensures.len))
-                (omega (arith, c.requires.total))).budget,
+            item_room _ _ _ _ b.budget,
             ap (λ (p : Waiting). length (part_values p)) c.empty.ensures,
           ),
         ),
@@ -29,15 +43,11 @@ push_spelling-part-requires g c =
 
 pub loop-set-init : goal.loop-set-init
 loop-set-init g c =
-    let f = (first_at c.args.setting c.args.set c.args.items.now c.args.at Fnc1 (length c.push.new.self.items)
-    c.args.total c.requires.at (omega (arith, c.requires.budget, c.push.ensures.len))
-    (omega (arith, c.requires.total))) in
+    let f = begins g (goal.at.loop-set-init g c).After-push in
     let begun =
     run_begun c.args.set c.args.words.now.items c.push.new.self.items c.latch.result c.latch.ensures
     c.push.ensures.items in
-    let pushed = subst
-    (λ (p : Waiting). IsItemPushed c.args.set (get_or c.args.items.now c.args.at Fnc1) p c.push.new.self.items
-    c.push_spelling-part.new.words.items c.push_spelling-part.result) c.empty.ensures c.push_spelling-part.ensures in
+    let pushed = rw c.empty.ensures at c.push_spelling-part.ensures in
     record {
       from = omega arith;
       within = omega (arith, c.requires.at);
@@ -56,53 +66,20 @@ loop-set-init g c =
       zero_is = omega arith
 
 pub bounds-items-next : goal.bounds-items-next
-bounds-items-next g c =
-    (run_at c.args.setting c.args.set c.args.items.now c.loop-set.next Fnc1 _ c.loop-set.part
-    (length c.loop-set.words.items) c.args.total c.goes_on.result
-    (c.requires.plan c.loop-set.next _ c.loop-set.invariant.within) c.loop-set.invariant.budget
-    (omega (arith, c.requires.total)) c.goes_on.ensures c.loop-set-test.true).there
+bounds-items-next g c = (goes g (goal.at.bounds-items-next g c).In-loop-set).there
 
 pub push_item-part-requires : goal.push_item-part-requires
 push_item-part-requires g c =
-    let held =
-    (run_at c.args.setting c.args.set c.args.items.now c.loop-set.next Fnc1 _ c.loop-set.part
-    (length c.loop-set.words.items) c.args.total c.goes_on.result
-    (c.requires.plan c.loop-set.next _ c.loop-set.invariant.within) c.loop-set.invariant.budget
-    (omega (arith, c.requires.total)) c.goes_on.ensures c.loop-set-test.true).held in (
-      search rules,
-      (
-        held,
-        (
-          search rules,
-          omega (
-            arith,
-            item_room _ _ _ _
-                (run_at c.args.setting c.args.set c.args.items.now c.loop-set.next Fnc1 _ c.loop-set.part
-                (length c.loop-set.words.items) c.args.total c.goes_on.result
-                (c.requires.plan c.loop-set.next _ c.loop-set.invariant.within) c.loop-set.invariant.budget
-                (omega (arith, c.requires.total)) c.goes_on.ensures c.loop-set-test.true).budget,
-          ),
-        ),
-      ),
-    )
+    let b = goes g (goal.at.push_item-part-requires g c).In-loop-set in
+    (search rules, (b.held, (search rules, omega (arith, item_room _ _ _ _ b.budget))))
 
 pub loop-set-smaller : goal.loop-set-smaller
-loop-set-smaller g c =
-    omega (
-      arith,
-      (run_at c.args.setting c.args.set c.args.items.now c.loop-set.next Fnc1 _ c.loop-set.part
-          (length c.loop-set.words.items) c.args.total c.goes_on.result
-          (c.requires.plan c.loop-set.next _ c.loop-set.invariant.within) c.loop-set.invariant.budget
-          (omega (arith, c.requires.total)) c.goes_on.ensures c.loop-set-test.true).there,
-    )
+loop-set-smaller g c = omega (arith, (goes g (goal.at.loop-set-smaller g c).In-loop-set).there)
 
 pub loop-set-preserved : goal.loop-set-preserved
 loop-set-preserved g c =
     let v = c.loop-set.invariant in
-    let r = (run_at c.args.setting c.args.set c.args.items.now c.loop-set.next Fnc1 _ c.loop-set.part
-    (length c.loop-set.words.items) c.args.total c.goes_on.result
-    (c.requires.plan c.loop-set.next _ c.loop-set.invariant.within) c.loop-set.invariant.budget
-    (omega (arith, c.requires.total)) c.goes_on.ensures c.loop-set-test.true) in
+    let r = goes g (goal.at.loop-set-preserved g c).In-loop-set in
     record {
       from = omega (arith, v.from);
       within = omega (arith, r.there);
@@ -121,9 +98,8 @@ loop-set-preserved g c =
 pub returns-then-total-len-gt1-clause-budget : goal.returns-then-total-len-gt1-clause-budget
 returns-then-total-len-gt1-clause-budget g c =
     let l = (leave_at c.args.setting c.args.set (drop c.loop-set.next c.args.items.now) _ c.loop-set.part
-    (length c.loop-set.words.items) c.args.total c.goes_on.result
-    (c.requires.plan c.loop-set.next _ c.loop-set.invariant.within) c.loop-set.invariant.budget c.goes_on.ensures
-    c.loop-set-test.false) in
+    (length c.loop-set.words.items) c.args.total _ (c.requires.plan c.loop-set.next _ c.loop-set.invariant.within)
+    c.loop-set.invariant.budget c.goes_on.ensures c.loop-set-test.false) in
     omega (arith, unlatched (parts_cost c.args.setting (drop c.loop-set.next c.args.items.now)))
 
 pub returns-then-total-len-gt1-clause-part : goal.returns-then-total-len-gt1-clause-part

@@ -5,8 +5,7 @@ use Rattle.dm_words.proofs.smallest.segment.write_segment.Goals as goal
 pub returns-clause-fits : goal.returns-clause-fits
 returns-clause-fits g c =
     let f = c.push_field.ensures in
-    let m = bytes_length c.push_field.new.words.items c.write_bytes.new.words.items c.args.items.now
-    c.write_bytes.ensures in
+    let m = bytes_length c.push_field.new.words.items _ c.args.items.now c.write_bytes.ensures in
     omega (arith, f.fits, m)
 
 pub returns-clause-most : goal.returns-clause-most
