@@ -13,9 +13,7 @@ chosen_some false xs ys hx hy = hy
 
 -- A designator has a codeword.
 designator_some : (number : ℕ) → 1 ≤ length (designator number)
-designator_some number =
-    chosen_some (nat_lt number 127) _ _ (omega arith)
-    (chosen_some (nat_lt number 16383) _ _ (omega arith) (omega arith))
+designator_some number = grind (arith, chosen_some, nat_lt)
 
 -- Items with marks have at least one codeword for each two items, and two for each mark.
 marked_counts : (before : ℕ) (items : List Item) (marks : List Mark)

@@ -2,10 +2,10 @@
 use Rattle.dm_words.proofs.Names.{◌≡◌, ℕ, suc, ◌+◌, ◌*◌, ◌/◌, ◌%◌, ◌<◌, ◌≤◌, List, [], ◌∷◌, ◌++◌, length, take, drop}
 use Rattle.dm_words.proofs.Names.{refl, sym, ap, subst, ◌∙◌, append_assoc, arith, length-append, Option, Some, None}
 use Rattle.dm_words.proofs.Names.{Result, Ok, true, append-nil, length-drop, length-take, drop-drop, Extent, Usual}
-use Rattle.dm_words.proofs.Names.{Designator, WordFault, ContentFault, Mark, most_assigned, IsDesignator, one, two}
-use Rattle.dm_words.proofs.Names.{three, ContentView, Said, Items, Number, IsContentPart, part, mark, said_items}
-use Rattle.dm_words.proofs.Names.{said_marks, eci_count, BeginNoEci, Takes, Stops, as_said, mark_by, first_content_part}
-use Rattle.dm_words.proofs.Names.{items_with, first_part, Item, Byte, codeword_of, extended, content_to, IsContentAt}
+use Rattle.dm_words.proofs.Names.{Designator, WordFault, ContentFault, Mark, most_assigned, IsDesignator, ContentView}
+use Rattle.dm_words.proofs.Names.{Said, Items, Number, IsContentPart, part, mark, said_items, said_marks, eci_count}
+use Rattle.dm_words.proofs.Names.{BeginNoEci, Takes, Stops, as_said, mark_by, first_content_part, items_with}
+use Rattle.dm_words.proofs.Names.{first_part, Item, Byte, codeword_of, extended, content_to, IsContentAt}
 use Rattle.dm_words.specs.declared.contents.fault.ContentFault.TheVariants as fault
 use Rattle.dm_words.specs.inner.Scan.Walk.{walk}
 use Rattle.dm_words.specs.inner.ContentScan.{with_said, content_on}
@@ -52,9 +52,7 @@ content_on-stops extent so_far place words why e = rw e
 
 -- A designator has a codeword.
 pub designator_some : (words : List ℕ) (number : ℕ) → IsDesignator words number → 0 < length words
-designator_some words n (one a l h e is) = rw e (omega arith)
-designator_some words n (two a b l h f e is) = rw e (omega arith)
-designator_some words n (three a b c l h f g e is k) = rw e (omega arith)
+designator_some words number h1 = grind arith
 
 -- A part of so many codewords has room: two items for each codeword, or two codewords for the number of an assignment.
 abbrev pub HasRoom : ℕ → Said → Type 0
@@ -226,9 +224,7 @@ mark_found place o d old new e head message marks = rw e (mark_taken place d old
 -- Where the words don't begin with ECI, a part of a content is one that says items.
 item_step : (extent : Extent) (place : ℕ) (words : List ℕ) → BeginNoEci words
     → first_content_part extent place words ≡ as_said (first_part extent place words)
-item_step extent place [] other = refl
-item_step extent place (w ∷ more) other =
-    as_part extent place w more (λ wide is. other more (ap (λ (x : ℕ). x ∷ more) is))
+item_step extent place words h1 = grind (arith, as_part)
 
 -- Such a part is taken.
 pub item_taken : (extent : Extent) (place : ℕ) (words : List ℕ) (o : Option ℕ) (old new : List Item)

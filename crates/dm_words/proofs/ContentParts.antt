@@ -149,9 +149,7 @@ content_end_complete extent place words (pad w more k e) = grind (arith, codewor
 found_fault : (extent : Extent) (place : ℕ) (words : List ℕ) (f : WordFault) → (extent ≡ Wide → BeginNoEci words)
     → first_part extent place words ≡ Stops (Some f)
     → first_content_part extent place words ≡ Stops (Some (fault.Word f))
-found_fault extent place [] f other e = absurd cc
-found_fault extent place (w ∷ more) f other e =
-    as_part extent place w more (λ wide is. other wide more (ap (λ (x : ℕ). x ∷ more) is)) ∙ ap as_said e
+found_fault extent place words f h1 h2 = grind (arith, nat_tests, as_part, as_said)
 
 -- A fault that is there is found.
 pub content_fault_complete : (extent : Extent) (place : ℕ) (words : List ℕ) (f : ContentFault)

@@ -3,10 +3,10 @@ use Rattle.dm_words.proofs.Names.{◌≡◌, ◌≢◌, ℕ, ◌+◌, ◌*◌, �
 use Rattle.dm_words.proofs.Names.{ap, subst, ◌∙◌, append_assoc, arith, length-append, get_or, Option, Some, None}
 use Rattle.dm_words.proofs.Names.{Result, Ok, Err, append-nil, drop_at, length-drop, length-take, drop-drop}
 use Rattle.dm_words.proofs.Names.{take-append-drop, Wide, Designator, ContentFault, Mark, Opened, Piece, spelled, whats}
-use Rattle.dm_words.proofs.Names.{AreJoined, ContentView, Says, part, mark, Said, Number, IsContentPart}
-use Rattle.dm_words.proofs.Names.{AreContentParts, HaveContentFault, IsOpening, AreOpened, no_head, behind, designation}
-use Rattle.dm_words.proofs.Names.{designations, AreDesignations, of_content, of_refused, Stops, opened, mark_by}
-use Rattle.dm_words.proofs.Names.{first_content_part, content_of}
+use Rattle.dm_words.proofs.Names.{AreJoined, ContentView, Says, Said, Number, IsContentPart, AreContentParts}
+use Rattle.dm_words.proofs.Names.{HaveContentFault, IsOpening, AreOpened, no_head, behind, designation, designations}
+use Rattle.dm_words.proofs.Names.{AreDesignations, of_content, of_refused, Stops, opened, mark_by, first_content_part}
+use Rattle.dm_words.proofs.Names.{content_of}
 use Rattle.std.proofs.lemmas.List.{get_or_append_left, get_or-append-add}
 use Rattle.dm_words.specs.inner.ContentsAt.{IsDesignationTaken}
 use Rattle.dm_words.proofs.Pairs.{IsBytes, IsBytes-drop}
@@ -205,9 +205,7 @@ no_eci_behind a b none i lt e =
 -- Parts without ECI have no designators.
 no_designation : (place before : ℕ) (words after : List ℕ) (said : Said) → IsContentPart Wide place words after said
     → HaveNoEci words → designation before said ≡ []
-no_designation place before words after said (part items p is) none = rw is refl
-no_designation place before words after said (mark d number wide e whole is) none =
-    absurd (none 0 (omega (arith, ap length whole)) (ap (λ (l : List ℕ). get_or l 0 0) whole))
+no_designation place before words after said h1 h2 = grind arith
 
 no_designations : (place before : ℕ) (ps : List (Piece Said)) (after : List ℕ)
     → AreJoined (IsContentPart Wide) place ps after

@@ -1,6 +1,6 @@
 -- How many codewords are ECI, and room for the marks that they say.
 use Rattle.dm_words.proofs.Names.{◌≡◌, ℕ, ◌+◌, ◌<◌, ◌≤◌, List, [], ◌∷◌, ◌++◌, length, take, drop, ap, arith, ◌∙◌, ◌-◌}
-use Rattle.dm_words.proofs.Names.{inl, inr, Bool, get_or, drop-cons, sym, add-one, ◌==◌, if◌then◌else◌, eqb-true}
+use Rattle.dm_words.proofs.Names.{Bool, get_or, drop-cons, sym, add-one, ◌==◌, if◌then◌else◌, eqb-true}
 use Rattle.dm_words.proofs.Names.{take-append-drop, drop-drop, drop_all, Extent, eci_word, ContentView, Said, Items}
 use Rattle.dm_words.proofs.Names.{Number, IsContentPart, part, mark, IsContentAt}
 use Rattle.dm_words.specs.Contents.{eci_count, HasMarkRoom}
@@ -51,9 +51,7 @@ taken_away extent at n words said (mark d number wide e whole is) =
 pub mark_fits : (room most : ℕ) (words : List ℕ) (at : ℕ) (so_far : ContentView) → HasMarkRoom most words
     → IsContentAt room words at so_far → at < length words → drop at words ≡ eci_word ∷ drop (at + 1) words
     → length so_far.marks < most
-mark_fits room most words at so_far (inl two) v lt here = omega (arith, two, v.mark_room, lt)
-mark_fits room most words at so_far (inr few) v lt here =
-    omega (arith, few, v.eci_left, ap eci_count here, one_counts (drop (at + 1) words))
+mark_fits room most words at so_far h1 h2 h3 h4 = grind (arith, eci_count, one_counts)
 
 -- A word counts by whether it is ECI.
 abbrev counted : Bool → ℕ
@@ -70,9 +68,7 @@ counted_here words at lt =
 pub eci_counted : (words : List ℕ) (at count : ℕ) → at < length words → eci_count words
     ≡ count + eci_count (drop at words) → get_or words at 0 ≡ eci_word → eci_count words
     ≡ count + 1 + eci_count (drop (at + 1) words)
-eci_counted words at count lt so_far e =
-    let one : counted (get_or words at 0 == eci_word) ≡ 1 = ap (λ (w : ℕ). counted (w == eci_word)) e in
-    omega (arith, so_far, counted_here words at lt, one)
+eci_counted words at count h1 h2 h3 = grind (arith, counted, eci_word, counted_here)
 
 pub other_passed : (words : List ℕ) (at count : ℕ) → at < length words → eci_count words
     ≡ count + eci_count (drop at words) → (get_or words at 0 ≡ eci_word → ⊥) → eci_count words
@@ -83,5 +79,4 @@ other_passed words at count h1 h2 h3 = grind (arith, counted_here, eci_word, cou
 pub all_counted : (words : List ℕ) (at count : ℕ) → length words ≤ at → eci_count words
     ≡ count + eci_count (drop at words) → count ≡ eci_count words
 unfolding eci_count
-all_counted words at count le so_far =
-    let none : eci_count (drop at words) ≡ 0 = ap eci_count (drop_all at words le) in omega (arith, so_far, none)
+all_counted words at count le so_far = grind (arith, eci_count, drop_all)

@@ -140,8 +140,7 @@ followed words o start w more rest there_is e a =
 run_ends : (xs ys after : List ℕ) (w latch : ℕ) → w ∷ [] ≡ latch ∷ (xs ++ ys) → IsRunEnd ys (232 ∷ after)
     → after ≡ []
 run_ends (x ∷ xs) ys after w latch e ended = absurd (let l = ap length e in omega (arith, l, length-append xs ys))
-run_ends [] ys after w latch e (unlatch is) =
-    absurd (let l = ap length e in let k = ap length is in omega (arith, l, k))
+run_ends [] ys after w latch e (unlatch is) = cc
 run_ends [] ys after w latch e (symbol_end is none) = absurd (let l = ap length none in omega arith)
 run_ends [] ys after w latch e (last_word word other is all) = (let t : after ≡ [] = cc in t)
 
@@ -191,12 +190,9 @@ part_alone place w after items (edifact wide r) =
 alone_tests : (start w : ℕ) (after : List ℕ) (said : Said) → IsContentPart Wide start (w ∷ []) (232 ∷ after) said
     → is_alone (codeword_of w) (length after) ≡ true
 alone_tests start w after said (part items p is) = part_alone start w after items p
-alone_tests start w after said (mark d number wide (one f a b e is) whole all) =
-    absurd (omega (arith, ap length whole, ap length e))
-alone_tests start w after said (mark d number wide (two f g a b c e is) whole all) =
-    absurd (omega (arith, ap length whole, ap length e))
-alone_tests start w after said (mark d number wide (three f g h a b c k e is few) whole all) =
-    absurd (omega (arith, ap length whole, ap length e))
+alone_tests start w after said (mark d number wide (one f a b e is) whole all) = cc
+alone_tests start w after said (mark d number wide (two f g a b c e is) whole all) = cc
+alone_tests start w after said (mark d number wide (three f g h a b c k e is few) whole all) = cc
 
 -- A codeword that is alone, and no macro, is a part before FNC1.
 alone_part : (start w : ℕ) (after : List ℕ) (k : Option Codeword) → codeword_of w ≡ k
@@ -328,9 +324,7 @@ by_rest words o start behind more there_is at no_macro = by_list more refl where
 
 -- A codeword that is a macro or a latch isn't FNC1.
 pub other_word : (w : ℕ) (k : Codeword) → codeword_of w ≡ Some k → (k ≡ codeword.Fnc1 → ⊥) → (w == 232) ≡ true → ⊥
-other_word w k e other is =
-    let same : w ≡ 232 = grind (arith, nat_tests) in
-    let g : k ≡ codeword.Fnc1 = cc in other g
+other_word w k h1 h2 h3 = grind (arith, nat_tests)
 
 -- Behind a macro FNC1 can stand second, and behind empty runs and a macro it is neither.
 by_frame : (words : List ℕ) (o : Opening) (start : ℕ) (more runs : List ℕ) (word digit : ℕ)

@@ -200,9 +200,7 @@ border_found words h1 = grind (arith, nat_tests)
 first_found : (word rest : ℕ) (after : List ℕ) → word ≡ 4 * 31 + rest → rest < 4 → 2 ≤ length after
     → edifact_run (word ∷ after) ≡ (1, [])
 unfolding edifact_run
-first_found word rest [] is lt le = absurd (omega arith)
-first_found word rest (b ∷ []) is lt le = absurd (omega arith)
-first_found word rest (b ∷ c ∷ more) is lt le = let e : word / 4 ≡ 31 = omega (arith, is) in rw e refl
+first_found word rest after h1 h2 h3 = grind (arith, nat_tests)
 
 -- An unlatch that is the second value of a group is found.
 second_found : (high low value rest : ℕ) (after : List ℕ) → low < 256 → 256 * high + low

@@ -1,11 +1,11 @@
 -- What parts spell are bytes of 0 to 255.
 use Rattle.dm_words.proofs.Names.{◌≡◌, ℕ, ◌+◌, ◌<◌, List, [], ◌∷◌, ◌++◌, length, map, sym, subst, arith, Some}
-use Rattle.dm_words.proofs.Names.{AllByRecursion, nat_tests, All-from_recursion, Extent, Item, CodeSet, C40, Text, X12}
-use Rattle.dm_words.proofs.Names.{Shift, basic_of, shifted_of, Piece, spelled, gathered, whats, AreJoined, IsItem}
-use Rattle.dm_words.proofs.Names.{IsMessage, byte_items, IsAsciiUnit, character, digits, fnc1, raised, IsCharacter}
-use Rattle.dm_words.proofs.Names.{by_shift, IsSpelling, codeword_of, AreBytes, IsGroup, edifact_byte, IsEdifactEnd}
-use Rattle.dm_words.proofs.Names.{few_left, first, second, third, fourth, macro_header, macro_trailer, macro_text}
-use Rattle.dm_words.proofs.Names.{IsPart, run, segment, edifact, AreParts}
+use Rattle.dm_words.proofs.Names.{AllByRecursion, nat_tests, All-from_recursion, Extent, Item, CodeSet, Shift, basic_of}
+use Rattle.dm_words.proofs.Names.{shifted_of, Piece, spelled, gathered, whats, AreJoined, IsItem, IsMessage, byte_items}
+use Rattle.dm_words.proofs.Names.{IsAsciiUnit, character, digits, fnc1, raised, IsCharacter, by_shift, IsSpelling}
+use Rattle.dm_words.proofs.Names.{codeword_of, AreBytes, IsGroup, edifact_byte, IsEdifactEnd, few_left, first, second}
+use Rattle.dm_words.proofs.Names.{third, fourth, macro_header, macro_trailer, macro_text, IsPart, run, segment, edifact}
+use Rattle.dm_words.proofs.Names.{AreParts}
 use Rattle.dm_words.specs.declared.c40.set.Basic.TheVariants as basic
 use Rattle.dm_words.specs.declared.c40.set.Shifted.TheVariants as shifted
 use Rattle.dm_words.specs.Values.{plain}
@@ -16,9 +16,7 @@ use Rattle.dm_words.proofs.AsciiWords.{AreItems, character_is, digits_are}
 
 -- A byte of a basic set is below 128.
 basic_byte : (set : CodeSet) (v b : ℕ) → basic_of set v ≡ Some (basic.Character b) → b < 128
-basic_byte C40 v b e = grind (arith, nat_tests)
-basic_byte Text v b e = grind (arith, nat_tests)
-basic_byte X12 v b e = grind (arith, nat_tests)
+basic_byte set v b h1 = grind (arith, nat_tests)
 
 -- A byte after a shift is below 128.
 shifted_byte : (set : CodeSet) (shift : Shift) (v b : ℕ) → shifted_of set shift v ≡ Some (shifted.Character b) → b < 128

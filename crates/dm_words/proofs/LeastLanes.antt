@@ -128,11 +128,7 @@ pub compared_bit : (xs ys : List ℕ) → length xs ≡ 8 → length ys ≡ 8 �
     → has_bit (2 ^ k) (mask_l (map (top 15) (zip2 (λ a b. cond (leb a b) 65535 0) xs ys)) % 18446744073709551616)
     ≡ nat_le (get_or xs k 0) (get_or ys k 0)
 unfolding compared
-compared_bit xs ys long other k there =
-    ap (has_bit (2 ^ k)) (compared_is xs ys long other)
-    ∙ ap (λ (n : ℕ). n == 1) (bit_mask_l (zip2 leb xs ys) k)
-    ∙ bit_is (get_or (zip2 leb xs ys) k false)
-    ∙ get_or-zip2 leb xs ys k 0 0 false (omega (arith, long, there)) (omega (arith, other, there))
+compared_bit xs ys h1 h2 k h3 = grind (arith, nat_tests, has_bit, compared_is, bit_mask_l, bit_is, get_or-zip2)
 
 -- ---- the lesser
 

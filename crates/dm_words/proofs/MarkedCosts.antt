@@ -71,13 +71,8 @@ cost_from : (seen place : ℕ) (items : List Item) (marks : List Mark) → seen 
     → marked_cost place (drop (place - seen) items) marks
     ≡ parts_cost (before_words (behind_first seen items marks))
     (take (first_end seen items marks - (place - seen)) (drop (place - seen) items))
-cost_from seen place items marks le starts =
-    let b = behind_first place (drop (place - seen) items) marks in
-    cost_is place (drop (place - seen) items) marks
-    ∙ ap (λ (l : List Item). parts_cost (before_words b) l) (text_shift seen place items marks le starts)
-    ∙ ap (λ (n : ℕ). parts_cost (before_words n)
-    (take (first_end seen items marks - (place - seen)) (drop (place - seen) items)))
-    (behind_shift seen place items marks le starts)
+cost_from seen place items marks h1 h2 =
+    grind (arith, behind_first, cost_is, parts_cost, before_words, text_shift, first_end, behind_shift)
 
 -- They end no further in front than at a place that no mark stands before.
 end_from : (seen place : ℕ) (items : List Item) (marks : List Mark) → AreMarks place (seen + length items) marks

@@ -46,9 +46,7 @@ last items marks before i le = at_drop_all (λ (r : List Mark). ascii_with_marks
 -- The items up to a mark take at most two codewords each.
 pub piece_short : (items : List Item) (before place : ℕ) → before ≤ place → place ≤ length items
     → length (ascii (take (place - before) (drop before items))) ≤ 2 * (place - before)
-piece_short items before place from within =
-    let s = take (place - before) (drop before items) in
-    omega (arith, two_words s, length-take (place - before) (drop before items), length-drop before items, from, within)
+piece_short items before place h1 h2 = grind (arith, two_words, length-take, length-drop)
 
 -- The codewords up to the next mark are counted, and those of the mark.
 pub count_turn : (items : List Item) (marks : List Mark) (before i place number total sum a m : ℕ)
@@ -132,9 +130,7 @@ add_turn items marks before i place number total words new newer t so_far first 
 pub unit_added : (u : Unit) (items : List Item) (at : ℕ) (total old new : List ℕ) → HasUnit u items at → total ≡ old
     ++ ascii (drop at items) → new ≡ old ++ unit_words u
     → total ≡ new ++ ascii (drop (at + unit_items u) items)
-unit_added u items at total old new h so_far is =
-    so_far ∙ ap (λ (r : List ℕ). old ++ r) h.words
-    ∙ (rw is (sym (append_assoc old (unit_words u) (ascii (drop (at + unit_items u) items)))))
+unit_added u items at total old new h1 h2 h3 = grind (arith, append_assoc, unit_words, unit_items)
 
 -- There is room for the unit.
 pub unit_fits : (u : Unit) (items : List Item) (at : ℕ) (total old : List ℕ) → HasUnit u items at → total ≡ old

@@ -346,9 +346,7 @@ segment_whole start latched counted new numbers bytes latch count all =
 
 -- The segment of a message has a latch, its length numbers and a codeword for each item.
 length-segment_of : (m : List Item) → length (segment_of m) ≡ 1 + length (length_numbers (length m)) + length m
-length-segment_of m =
-    let here : length (map byte_of m) ≡ length m = length-map m byte_of in
-    omega (arith, length-one_segment (map byte_of m), here, ap (λ (n : ℕ). length (length_numbers n)) here)
+length-segment_of m = grind (arith, nat_tests, byte_of, length-map, length-one_segment, length_numbers)
 
 -- The form that was chosen is the normal form.
 chosen_form : (profile : Profile) (m : List Item) (takes marked : Bool) (count words : ℕ)

@@ -107,14 +107,10 @@ content_plain profile head items marks words form room (Err why) right are few i
 -- That of a message is this.
 pub plain_is_normal : (profile : Profile) (head : Option Head) (items : List Item) (marks : List Mark)
     → is_plain head marks ≡ true → normal_form profile items ≡ form_by profile head items marks
-plain_is_normal profile None items [] plain = refl
-plain_is_normal profile None items (m ∷ marks) plain = absurd cc
-plain_is_normal profile (Some head) items marks plain = absurd cc
+plain_is_normal profile head items marks h1 = grind (arith, nat_tests)
 
 -- And that of another content is this.
 pub marked_is_ascii : (profile : Profile) (head : Option Head) (items : List Item) (marks : List Mark)
     → is_plain head marks ≡ false → head_words head ++ ascii_with_marks 0 items marks
     ≡ form_by profile head items marks
-marked_is_ascii profile None items [] marked = absurd cc
-marked_is_ascii profile None items (m ∷ marks) marked = refl
-marked_is_ascii profile (Some head) items marks marked = refl
+marked_is_ascii profile head items marks h1 = grind (arith, nat_tests)

@@ -284,9 +284,7 @@ word_there words at w e = drop-cons words at 0 (slice_get_within words at w e)
 
 -- Frames that are moved in two steps are moved in one.
 moved-moved : (a b c : ℕ) (o : Option Frame) → a + b ≡ c → moved a (moved b o) ≡ moved c o
-moved-moved a b c None e = refl
-moved-moved a b c (Some f) e =
-    ap (λ (n : ℕ). Some (let g : Frame = record { count = n; digit = f.digit } in g)) (omega (arith, e))
+moved-moved a b c o h1 = grind (arith, nat_tests)
 
 -- What begins the words from an index on stands there.
 at_first : (words : List ℕ) (at n : ℕ) (more : List ℕ) → drop at words ≡ n ∷ more → slice_get words at ≡ Some n
@@ -298,9 +296,7 @@ at_first (w ∷ words) (suc at) n more e = at_first words at n more e
 -- What begins the words behind an index stands at the next one.
 at_index : (words : List ℕ) (at n : ℕ) (more : List ℕ) → drop (suc at) words ≡ n ∷ more → slice_get words (at + 1)
     ≡ Some n
-at_index words at n more e =
-    (let next : suc at
-    ≡ at + 1 = omega arith in at_first words (at + 1) n more (ap (λ (k : ℕ). drop k words) (sym next) ∙ e))
+at_index words at n more h1 = grind (arith, nat_tests, at_first)
 
 -- Where a macro comes next, the frame ends behind it.
 pub macro_next : (words : List ℕ) (at w d : ℕ) (total : Option Frame) → slice_get words at ≡ Some w

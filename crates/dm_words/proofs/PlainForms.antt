@@ -7,7 +7,7 @@ use Rattle.dm_words.proofs.Names.{Opening, Framed, Ascii, ascii, single, is_digi
 use Rattle.dm_words.proofs.Names.{head_words, Piece, spelled, whats, AreJoined, as_content, ascii_with_marks, form_by}
 use Rattle.dm_words.proofs.Names.{content_form, ContentView, AreMarks, Said, Items, Number, said_items, said_marks}
 use Rattle.dm_words.proofs.Names.{said_content, IsOpening, headed, framed, plain, AreOpened, BeginsFrame, Says}
-use Rattle.dm_words.proofs.Names.{macro_text, BeginsFnc1, pads, padded, FramesNoFnc1, IsPlainForm, IsPlainPart, IsPart}
+use Rattle.dm_words.proofs.Names.{macro_text, BeginsFnc1, padded, FramesNoFnc1, IsPlainForm, IsPlainPart, IsPart}
 use Rattle.dm_words.proofs.Names.{IsFnc1Number, IsIdentifier, marks_number, fnc1_number, AreSaid, first_text, view_of}
 use Rattle.dm_words.proofs.Names.{sign_words, KeepsSign, IsMacroOf, inner_text, ArePartsWritten}
 use Rattle.dm_words.specs.declared.codeword.Codeword.TheVariants as codeword
@@ -198,9 +198,7 @@ marked_sign items (m ∷ marks) = keeps_more [] (ascii (take (m.place - 0) items
 -- It is the head's codewords and the items with their marks.
 pub form_is : (head : Option Head) (items : List Item) (marks : List Mark) → form_by Ascii head items marks
     ≡ head_words head ++ ascii_with_marks 0 items marks
-form_is None items [] = refl
-form_is None items (m ∷ marks) = refl
-form_is (Some head) items marks = refl
+form_is head items marks = grind arith
 
 -- A content that can be written.
 pub record IsWritable (l : ContentView) : Type 0 where
@@ -226,9 +224,7 @@ form_sign l =
 
 -- Without pads too.
 no_pads : (words : List ℕ) → padded words (length words) ≡ words
-no_pads words =
-    let none : length words - length words ≡ 0 = omega arith in
-    ap (λ (n : ℕ). words ++ pads (length words + 1) n) none ∙ append-nil words
+no_pads words = grind (arith, append-nil)
 
 -- ---- the whole
 

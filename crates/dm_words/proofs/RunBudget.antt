@@ -62,9 +62,7 @@ pairs_are setting set m = grind (arith, nat_tests)
 -- The plan says whether a run ends.
 pub ends_are : (setting : Setting) (set : CodeSet) (m : List Item) (s : Step) → IsRightStep setting m s → run_ends set s
     ≡ nat_le (leave 1 (parts_cost setting m)) (going_pairs set (going_from setting m)).none
-ends_are setting C40 m s r = ap (run_ends C40) r.ends
-ends_are setting Text m s r = ap (run_ends Text) r.ends
-ends_are setting X12 m s r = ap (run_ends X12) r.ends
+ends_are setting set m s h1 = grind (arith, nat_tests, run_ends)
 
 -- An item is pushed within the budget.
 pub item_paid : (set : CodeSet) (p p' : Waiting) (k n words words' total : ℕ) (next : Pairs)

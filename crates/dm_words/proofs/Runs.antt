@@ -364,9 +364,7 @@ stop_of words (inr b) = (stop.BadPair, bad b.high b.low b.more b.no_unlatch b.is
 -- An Upper Shift that waits is the fault in the usual extent, where no bad pair follows.
 fault_unfinished : (extent : Extent) (place n values : ℕ) (t : PairsEnd) → extent ≡ Usual → t ≢ stop.BadPair
     → run_fault extent place n t values left.Waiting ≡ Some (fault.Unfinished (pair_place place (values + 1)))
-fault_unfinished extent place n values stop.Unlatch is ne = rw is refl
-fault_unfinished extent place n values stop.SymbolEnd is ne = rw is refl
-fault_unfinished extent place n values stop.BadPair is ne = absurd (ne refl)
+fault_unfinished extent place n values t h1 h2 = grind arith
 
 -- The fault that is there tells how the pairs stop and what the rest is.
 fault_found : (extent : Extent) (set : CodeSet) (place values : ℕ) (rest : List ℕ) (n : ℕ) (words : List ℕ)
@@ -449,9 +447,7 @@ pairs_room (p ∷ ps) h =
 items_room : (set : CodeSet) (ps : List (Piece Item)) → AllByRecursion (λ p. IsSpelling set p.words p.what) ps
     → length (whats ps) ≤ length (spelled ps)
 items_room set [] h = omega arith
-items_room set (p ∷ ps) h =
-    let one = (item_complete set 0 p.words [] p.what h.0).1 in
-    omega (arith, one, items_room set ps h.1, length-append p.words (spelled ps))
+items_room set (p ∷ ps) h = grind (arith, item_complete, length-append, items_room set ps h.1)
 
 -- A run has at most two items for each word.
 pub run_room : (extent : Extent) (set : CodeSet) (words after : List ℕ) (items : List Item)

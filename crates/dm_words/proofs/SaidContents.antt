@@ -2,9 +2,9 @@
 use Rattle.dm_words.proofs.Names.{◌≡◌, ℕ, ◌+◌, ◌≤◌, ◌<◌, List, [], ◌∷◌, ◌++◌, length, sym, subst, arith, length-append}
 use Rattle.dm_words.proofs.Names.{AllByRecursion, All-from_recursion, Extent, Opening, IsItem, IsMessage, Item}
 use Rattle.dm_words.proofs.Names.{as_content, Spells, Piece, spelled, whats, AreJoined, most_assigned, IsDesignator}
-use Rattle.dm_words.proofs.Names.{one, two, three, IsHead, ContentView, AreMarks, IsContent, Said, Items, Number}
-use Rattle.dm_words.proofs.Names.{IsContentPart, part, mark, said_items, said_marks, IsOpening, headed, framed, plain}
-use Rattle.dm_words.proofs.Names.{opening_head, opening_items, closing_items, said_content, AreContentParts, Says}
+use Rattle.dm_words.proofs.Names.{IsHead, ContentView, AreMarks, IsContent, Said, Items, Number, IsContentPart, part}
+use Rattle.dm_words.proofs.Names.{mark, said_items, said_marks, IsOpening, headed, framed, plain, opening_head}
+use Rattle.dm_words.proofs.Names.{opening_items, closing_items, said_content, AreContentParts, Says}
 use Rattle.dm_words.proofs.AsciiWords.{AreItems}
 use Rattle.dm_words.proofs.ItemBytes.{part_items, items-append, macro_byte}
 use Rattle.dm_words.proofs.Heads.{head_only}
@@ -17,9 +17,7 @@ IsRight (Number number) = number ≤ most_assigned
 
 -- A designator says the number of an assignment.
 pub assigned : (words : List ℕ) (number : ℕ) → IsDesignator words number → number ≤ most_assigned
-assigned words n (one a l h e is) = omega (arith, is, h)
-assigned words n (two a b l h f e is) = omega (arith, is, h, f.1)
-assigned words n (three a b c l h f g e is k) = k
+assigned words number h1 = grind arith
 
 -- What a part says is right.
 part_right : (extent : Extent) (place : ℕ) (words after : List ℕ) (said : Said)

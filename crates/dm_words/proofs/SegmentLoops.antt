@@ -46,9 +46,7 @@ bytes_more words start i b first old new lt is so_far e =
 -- The values from an index on begin with the value there.
 pub plain_first : (words : List ℕ) (place k d : ℕ) → k < length words → d ≡ plain_at place (get_or words k 0)
     → plain place (drop k words) ≡ d ∷ plain (place + 1) (drop (k + 1) words)
-plain_first words place k d lt is =
-    let cut : drop k words ≡ get_or words k 0 ∷ drop (k + 1) words = cc (drop-cons words k 0 lt, add-one k) in
-    ap (plain place) cut ∙ ap (λ (v : ℕ). v ∷ plain (place + 1) (drop (k + 1) words)) (sym is)
+plain_first words place k d h1 h2 = grind (arith, drop-cons, add-one, plain)
 
 -- A length field and as many bytes as it says are taken.
 pub segment_takes : (place : ℕ) (field values : List ℕ) (n : ℕ) → n ≤ length values

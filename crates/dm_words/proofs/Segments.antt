@@ -43,8 +43,7 @@ written-plain place (w ∷ ws) fit =
 pub plain-written : (place : ℕ) (vs : List ℕ) → AreBytes vs → plain place (written place vs) ≡ vs
 plain-written place [] fit = refl
 plain-written place (v ∷ vs) fit =
-    let m = random_small place in
-    rw (random_goes v (random_at place) fit.0 m.0 m.1, plain-written (place + 1) vs fit.1) refl
+    grind (arith, random_small, random_goes, random_at, plain-written (place + 1) vs fit.1)
 
 -- A codeword stands for a value of 0 to 255.
 pub plain_small : (place : ℕ) (ws : List ℕ) → AreBytes (plain place ws)

@@ -89,9 +89,7 @@ unit_fnc1 words more items (raised s w b k l e i) after is =
 -- A codeword with another meaning isn't 232.
 not_fnc1 : (w : ℕ) (k : Codeword) (words rest after more : List ℕ) → codeword_of w ≡ Some k
     → (k ≡ codeword.Fnc1 → ⊥) → words ≡ w ∷ rest → words ++ after ≡ 232 ∷ more → ⊥
-not_fnc1 w k words rest after more is other e whole =
-    let same : w ≡ 232 = cc in
-    let h : k ≡ codeword.Fnc1 = cc in other h
+not_fnc1 w k words rest after more h1 h2 h3 h4 = grind (arith, nat_tests)
 
 part_fnc1 : (place : ℕ) (words follow more after : List ℕ) (items : List Item)
     → IsPlainPart place words follow items → words ++ after ≡ 232 ∷ more → BeginsFnc1 items

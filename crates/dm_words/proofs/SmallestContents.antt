@@ -1,10 +1,9 @@
 -- The words that are written for a content say it, and no fewer do; and how far they are determined.
-use Rattle.dm_words.proofs.Names.{◌≡◌, ◌↔◌, ℕ, ◌+◌, ◌*◌, ◌≤◌, List, [], ◌∷◌, ◌++◌, length, refl, sym, ap, subst, ◌∙◌}
-use Rattle.dm_words.proofs.Names.{arith, true, false, Option, Some, None, Result, Ok, Err, SizeChoice, SizeEntry}
-use Rattle.dm_words.proofs.Names.{Extent, Usual, Wide, TooLong, Item, Head, Mark, Ascii, head_words, ContentView, Says}
-use Rattle.dm_words.proofs.Names.{content_form, ascii_with_marks, as_content, padded, FramesNoFnc1, IsPlainForm}
-use Rattle.dm_words.proofs.Names.{SaysThenPads, IsSmallestContentResult, never, view_of, IsLeastContentCost, is_plain}
-use Rattle.dm_words.proofs.Names.{IsLeastCost}
+use Rattle.dm_words.proofs.Names.{◌≡◌, ◌↔◌, ℕ, ◌+◌, ◌*◌, ◌≤◌, List, [], ◌++◌, length, refl, sym, ap, subst, ◌∙◌, arith}
+use Rattle.dm_words.proofs.Names.{true, false, Option, None, Result, Ok, Err, SizeChoice, SizeEntry, Extent, Usual}
+use Rattle.dm_words.proofs.Names.{Wide, TooLong, Item, Head, Mark, Ascii, head_words, ContentView, Says, content_form}
+use Rattle.dm_words.proofs.Names.{ascii_with_marks, as_content, padded, FramesNoFnc1, IsPlainForm, SaysThenPads}
+use Rattle.dm_words.proofs.Names.{IsSmallestContentResult, never, view_of, IsLeastContentCost, is_plain, IsLeastCost}
 use Rattle.dm_words.specs.Smallest.{IsSmallestResult}
 use Rattle.dm_words.specs.SmallestContents.{IsSmallestContentFor, NoSizeSays, IsPlainestContent, of_message, of_content}
 use Rattle.dm_words.specs.inner.ContentCosts.{IsLeastSize, IsSizeFor}
@@ -60,9 +59,7 @@ plain_is l h1 = grind (arith, is_plain, as_content, view_of)
 -- What is none has a head or a mark.
 pub is_no_message : (head : Option Head) (marks : List Mark) → is_plain head marks ≡ false → head ≡ None → marks ≡ []
     → ⊥
-is_no_message None [] e none nothing = absurd cc
-is_no_message None (m ∷ marks) e none nothing = absurd cc
-is_no_message (Some head) marks e none nothing = absurd cc
+is_no_message head marks h1 h2 h3 = grind arith
 
 -- ---- contents with a head or marks
 

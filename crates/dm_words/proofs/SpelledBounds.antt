@@ -84,13 +84,9 @@ some_spell_most Wide (suc n) = zeros_behind_macro n
 
 -- Where all that is spelled has room, two items for each codeword have.
 pub room_of_two : (room : ℕ) (extent : Extent) (count : ℕ) → most_spelled extent count ≤ room → 2 * count ≤ room
-room_of_two room Usual count le = le
-room_of_two room Wide zero le = omega arith
-room_of_two room Wide (suc count) le = omega (arith, le)
+room_of_two room extent count h1 = grind arith
 
 -- Where seven items more than two for each codeword have room, all that is spelled has.
 pub room_for_spelled : (room : ℕ) (extent : Extent) (count : ℕ) → 2 * count + 7 ≤ room
     → most_spelled extent count ≤ room
-room_for_spelled room Usual count le = omega (arith, le)
-room_for_spelled room Wide zero le = omega arith
-room_for_spelled room Wide (suc count) le = le
+room_for_spelled room extent count h1 = grind arith

@@ -108,9 +108,7 @@ held set vs item s = let a =
 
 -- The values of tables are below 40.
 basic_small : (set : CodeSet) (v : ℕ) (m : Basic) → basic_of set v ≡ Some m → v < 40
-basic_small C40 v m e = grind (arith, nat_tests)
-basic_small Text v m e = grind (arith, nat_tests)
-basic_small X12 v m e = grind (arith, nat_tests)
+basic_small set v m h1 = grind (arith, nat_tests)
 
 shifted_small : (set : CodeSet) (shift : Shift) (v : ℕ) (m : Shifted) → shifted_of set shift v ≡ Some m → v < 40
 shifted_small set shift v m h1 = grind (arith, nat_tests)

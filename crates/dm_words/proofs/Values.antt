@@ -182,9 +182,7 @@ item_complete set place values after item (raised upper more b u c w i) =
 -- An Upper Shift that waits is found.
 waiting_complete : (set : CodeSet) (place : ℕ) (values upper filler : List ℕ) → IsUpperShift set upper
     → IsFiller set filler → values ≡ upper ++ filler → first_spelling set place values ≡ Stops left.Waiting
-waiting_complete set place values upper filler u (nothing e) w = rw (w, u.whole, e) (rw (u.is_shift, u.means) refl)
-waiting_complete set place values upper filler u (lone_shift v shift e is) w =
-    rw (w, u.whole, is) (rw (u.is_shift, u.means, e) refl)
+waiting_complete set place values upper filler h1 h2 h3 = grind (arith, nat_tests, lone_shift)
 
 -- An Upper Shift before something that is not a character is found.
 wrong_complete : (set : CodeSet) (place : ℕ) (values upper pair more : List ℕ) → IsUpperShift set upper

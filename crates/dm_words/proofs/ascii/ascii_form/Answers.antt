@@ -24,5 +24,4 @@ returns-clause-length c =
     omega (arith, at_drop_all (λ (r : List Item). length (ascii r)) c.args.items.now c.loop-at.at c.loop-at-test.false)
 
 pub returns-clause-has_fnc1 : goal.returns-clause-has_fnc1
-returns-clause-has_fnc1 c =
-    fnc1_end c.args.items.now c.loop-at.at c.loop-at.form.has_fnc1 c.loop-at-test.false c.loop-at.invariant.has_fnc1
+returns-clause-has_fnc1 c = fnc1_end _ _ _ c.loop-at-test.false c.loop-at.invariant.has_fnc1

@@ -4,6 +4,5 @@ use Rattle.dm_words.proofs.ascii.unit_at.Goals as goal
 
 pub returns : goal.returns
 returns c =
-    pair_begins c.args.items.now c.args.at c.in-Byte.first c.in-Byte-items.second c.digit_pair.result (omega arith)
-    c.in-Byte.is c.in-Byte-items.is
-    (sym c.is_digit.ensures ∙ c.if-is_digit.true) (sym c.is_digit-2.ensures ∙ c.if-is_digit-2.true) c.digit_pair.ensures
+    pair_begins _ _ _ _ _ (omega arith) c.in-Byte.is c.in-Byte-items.is (sym c.is_digit.ensures ∙ c.if-is_digit.true)
+    (sym c.is_digit-2.ensures ∙ c.if-is_digit-2.true) c.digit_pair.ensures

@@ -27,15 +27,11 @@ loop-at-smaller g c =
     omega (arith, h.some, h.within, c.write_unit-at.ensures.item_count)
 
 pub returns-clause-words : goal.returns-clause-words
-returns-clause-words g c =
-    words_end c.args.items.now c.loop-at.at c.loop-at.words.items c.loop-at-test.false c.loop-at.invariant.so_far
+returns-clause-words g c = words_end _ _ _ c.loop-at-test.false c.loop-at.invariant.so_far
 
 pub returns-clause-length : goal.returns-clause-length
 returns-clause-length g c =
-    c.len.ensures.value
-    ∙ ap length
-    (words_end c.args.items.now c.loop-at.at c.loop-at.words.items c.loop-at-test.false c.loop-at.invariant.so_far)
+    c.len.ensures.value ∙ ap length (words_end _ _ _ c.loop-at-test.false c.loop-at.invariant.so_far)
 
 pub returns-clause-has_fnc1 : goal.returns-clause-has_fnc1
-returns-clause-has_fnc1 g c =
-    fnc1_end c.args.items.now c.loop-at.at c.loop-at.has_fnc1 c.loop-at-test.false c.loop-at.invariant.has_fnc1
+returns-clause-has_fnc1 g c = fnc1_end _ _ _ c.loop-at-test.false c.loop-at.invariant.has_fnc1

@@ -23,7 +23,6 @@ loop-item-preserved g c =
     let v = c.loop-item.invariant in
     let put : c.push.new.self.items ≡ old ++ randomised (length old + 1) c.byte.result ∷ [] = cc in
     record {
-      so_far = bytes_more c.args.words.now.items old c.push.new.self.items c.args.items.now c.loop-item.item-index
-          c.byte.result _ c.loop-item-test.true c.byte.ensures v.so_far put;
+      so_far = bytes_more _ old _ _ _ _ _ c.loop-item-test.true c.byte.ensures v.so_far put;
       number = cc (c.next_random-number.ensures.next (length old + 1) v.number, c.push.ensures.len);
     }

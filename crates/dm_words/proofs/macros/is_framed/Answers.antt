@@ -22,6 +22,5 @@ returns-clause-no_fnc1 c = λ t b.
     (let yes = c.begin_with_fnc1.ensures.no b in let no = c.if-begin_with_fnc1.false in cc)
 
 pub returns-then-begin_with_fnc1-clause-no : goal.returns-then-begin_with_fnc1-clause-no
-returns-then-begin_with_fnc1-clause-no c = λ text e none.
-    absurd (none (fnc1_inside c.args.items.now c.args.digit text _ e
-    (c.begin_with_fnc1.ensures.yes c.if-begin_with_fnc1.true)))
+returns-then-begin_with_fnc1-clause-no c =
+    λ text e none. absurd (none (fnc1_inside _ _ text _ e (c.begin_with_fnc1.ensures.yes c.if-begin_with_fnc1.true)))

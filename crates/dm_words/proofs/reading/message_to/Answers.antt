@@ -12,5 +12,4 @@ pub returns-in-Ok-clause-read : goal.returns-in-Ok-clause-read
 returns-in-Ok-clause-read g c = message_result c.args.words.now _ c.in-Ok.ensures.content
 
 pub returns-in-Err-Word-clause-read : goal.returns-in-Err-Word-clause-read
-returns-in-Err-Word-clause-read g c =
-    fault_result c.args.words.now c.in-Err-Word.fault (rw c.in-Err-Word.field-0-is at c.in-Err-Word.ensures.content)
+returns-in-Err-Word-clause-read g c = fault_result _ _ (rw c.in-Err-Word.field-0-is at c.in-Err-Word.ensures.content)

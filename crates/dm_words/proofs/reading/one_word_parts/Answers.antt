@@ -6,9 +6,8 @@ pub loop-word-preserved : goal.loop-word-preserved
 loop-word-preserved g c =
     let v = c.loop-word.invariant in
     let taken = rw c.if-not-is_taken.false at c.one_word_part-is_taken.ensures.taken in
-    let r = one_word_turn c.args.words.now c.args.start c.loop-word.at c.in-Some.word c.args.message.now
-    c.loop-word.message c.one_word_part-is_taken.new.message
-    (λ i. omega (arith, c.type_inv.words i)) v.room c.in-Some.ensures taken v.said in
+    let r =
+    one_word_turn _ _ _ _ _ _ _ (λ i. omega (arith, c.type_inv.words i)) v.room c.in-Some.ensures taken v.said in
     record {
       from = omega (arith, v.from);
       in_range = r.in_range;

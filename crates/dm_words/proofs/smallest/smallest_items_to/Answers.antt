@@ -23,9 +23,8 @@ returns-in-Some-clause-smallest c =
     let long : length c.pad_to.new.words.items ≡ c.in-Some.size.data_count = cc in
     let spells = subst (λ (l : List ℕ). SpellsThenPads extent l m) (sym is) c.write_plainest.ensures.spells in
     record {
-      smallest = is_smallest extent c.args.choice m c.least_way-found.result.way.cost c.in-Some.size
-          c.pad_to.new.words.items c.least_way-found.ensures.least (size.size, size.chosen) size.smallest size.narrowest
-          long (padded_spells extent c.pad_to.new.words.items m spells) (rw (sym is) at c.write_plainest.ensures.form);
+      smallest = is_smallest extent _ m _ _ _ c.least_way-found.ensures.least (size.size, size.chosen) size.smallest
+          size.narrowest long (padded_spells extent _ m spells) (rw (sym is) at c.write_plainest.ensures.form);
       plainest = subst (λ (l : List ℕ). IsPlainest l m) (sym is) c.write_plainest.ensures.plainest;
       padded = spells;
       too_long = λ err size other taken sized framed says. absurd (cc);

@@ -16,8 +16,7 @@ returns-then-found-count-clause-plainest g c =
 
 pub returns-else-not-is_usual-clause-plainest : goal.returns-else-not-is_usual-clause-plainest
 returns-else-not-is_usual-clause-plainest g c =
-    usual_plainest c.args.items.now c.write_way-is_usual.new.words.items c.args.count c.write_way-is_usual.ensures.fits
-    (omega (arith, c.requires.ascii, c.if-found-count.false))
+    usual_plainest _ _ _ c.write_way-is_usual.ensures.fits (omega (arith, c.requires.ascii, c.if-found-count.false))
     (c.write_way-is_usual.ensures.usual (search rules))
 
 pub returns-then-found-count-clause-form : goal.returns-then-found-count-clause-form

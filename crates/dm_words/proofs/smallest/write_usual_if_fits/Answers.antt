@@ -7,17 +7,14 @@ returns-then-plan_to-count-clause-spells g c = wider c.args.extent _ _ c.write_p
 
 pub returns-then-plan_to-count-clause-plainest : goal.returns-then-plan_to-count-clause-plainest
 returns-then-plan_to-count-clause-plainest g c =
-    usual_plainest c.args.items.now c.write_plain-usual.new.words.items c.args.count c.write_plain-usual.ensures.fits
-    c.requires.no_ascii c.write_plain-usual.ensures.spells
+    usual_plainest _ _ _ c.write_plain-usual.ensures.fits c.requires.no_ascii c.write_plain-usual.ensures.spells
 
 pub returns-else-plan_to-count-clause-plainest : goal.returns-else-plan_to-count-clause-plainest
 returns-else-plan_to-count-clause-plainest g c =
-    any_plainest c.args.items.now c.args.words.now.items c.args.count c.plan_to.result.least c.requires.fits
-    c.requires.no_ascii
+    any_plainest _ _ _ _ c.requires.fits c.requires.no_ascii
     (c.plan_to.ensures.cost ∙ ap (λ (s : Setting). parts_cost s c.args.items.now) c.at_end.ensures)
     c.if-plan_to-count.false
 
 pub returns-then-from-items-clause-plainest : goal.returns-then-from-items-clause-plainest
 returns-then-from-items-clause-plainest g c =
-    long_plainest c.args.items.now c.args.words.now.items c.args.count c.requires.fits c.requires.no_ascii
-    (omega (arith, c.from.ensures, c.if-from-items.true))
+    long_plainest _ _ _ c.requires.fits c.requires.no_ascii (omega (arith, c.from.ensures, c.if-from-items.true))

@@ -6,9 +6,8 @@ pub loop-first-preserved : goal.loop-first-preserved
 loop-first-preserved g c =
     let v = c.loop-first.invariant in
     let g = c.in-Values.ensures in
-    let t = pairs_turn c.args.words.now c.loop-first.at c.in-Values.first c.in-Values.second c.in-Values.third
-    c.loop-first.values.items c.push_values.new.values.items (pairs_in c.args.words.now)
-    (λ i. omega (arith, c.type_inv.words i)) v.in_range g.0 c.push_values.ensures v.so_far in
+    let t = pairs_turn _ _ _ _ _ _ _ (pairs_in c.args.words.now) (λ i. omega (arith, c.type_inv.words i)) v.in_range g.0
+    c.push_values.ensures v.so_far in
     record {
       in_range = t.1;
       room = omega (
@@ -16,8 +15,7 @@ loop-first-preserved g c =
         ap length c.push_values.ensures,
         length-append c.loop-first.values.items (c.in-Values.first ∷ c.in-Values.second ∷ c.in-Values.third ∷ []),
       );
-      small = small_more c.loop-first.values.items c.push_values.new.values.items c.in-Values.first c.in-Values.second
-          c.in-Values.third c.push_values.ensures v.small g.1 g.2 g.3;
+      small = small_more _ _ _ _ _ c.push_values.ensures v.small g.1 g.2 g.3;
       so_far = t.0;
     }
 

@@ -6,8 +6,7 @@ pub returns-in-Some : goal.returns-in-Some
 returns-in-Some g c =
     let p = c.pairs_to-pairs in
     let r = c.read_values-spelled in
-    run_is c.args.extent c.args.set (c.args.at + 1) c.args.words.now c.as_slice.result.now p.result.word_count
-    p.result.end r.result.value_count r.result.rest
+    run_is _ _ (c.args.at + 1) _ _ p.result.word_count p.result.end r.result.value_count r.result.rest
     (Some c.in-Some.fault) (
       cc (c.as_slice.ensures.value, p.ensures.values),
       p.ensures.word_count,

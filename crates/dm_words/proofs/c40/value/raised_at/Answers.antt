@@ -1,11 +1,9 @@
-use Rattle.dm_words.proofs.Names.{◌+◌, ◌∙◌, ap, refl, drop, first_raised}
+use Rattle.dm_words.proofs.Names.{◌∙◌, ap, refl, first_raised}
 use Rattle.dm_words.proofs.RunLoops.{small_at}
 use Rattle.dm_words.proofs.c40.value.raised_at.Goals as goal
 
 pub basic_meaning-requires : goal.basic_meaning-requires
-basic_meaning-requires c =
-    small_at c.args.values.now (drop (c.args.at + 1) c.args.values.now) c.args.at c.in-Some.third c.requires.small
-    c.in-Some.ensures
+basic_meaning-requires c = small_at _ _ _ _ c.requires.small c.in-Some.ensures
 
 pub returns-in_default-number_at : goal.returns-in_default-number_at
 returns-in_default-number_at c = ap (first_raised c.args.set) c.in-Some.ensures

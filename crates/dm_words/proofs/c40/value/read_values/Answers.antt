@@ -5,9 +5,8 @@ use Rattle.dm_words.proofs.c40.value.read_values.Goals as goal
 pub loop-count-preserved : goal.loop-count-preserved
 loop-count-preserved g c =
     let v = c.loop-count.invariant in
-    let t = items_turn c.args.set c.args.values.now c.loop-count.at c.in-Takes.count c.in-Takes.item
-    c.args.message.now c.loop-count.message c.add.new.self (items_in c.args.set c.args.values.now) v.in_range
-    c.in-Takes.ensures c.add.ensures v.so_far in
+    let t = items_turn _ _ _ _ _ _ _ _ (items_in c.args.set c.args.values.now) v.in_range c.in-Takes.ensures
+    c.add.ensures v.so_far in
     record {
       in_range = t.2;
       room = omega (arith, ap length c.add.ensures, length-append c.loop-count.message (c.in-Takes.item ∷ []));
@@ -17,9 +16,8 @@ loop-count-preserved g c =
 pub loop-count-smaller : goal.loop-count-smaller
 loop-count-smaller g c =
     let v = c.loop-count.invariant in
-    let t = items_turn c.args.set c.args.values.now c.loop-count.at c.in-Takes.count c.in-Takes.item
-    c.args.message.now c.loop-count.message c.add.new.self (items_in c.args.set c.args.values.now) v.in_range
-    c.in-Takes.ensures c.add.ensures v.so_far in
+    let t = items_turn _ _ _ _ _ _ _ _ (items_in c.args.set c.args.values.now) v.in_range c.in-Takes.ensures
+    c.add.ensures v.so_far in
     omega (arith, t.1, t.2)
 
 pub returns-in-Stops-clause-items : goal.returns-in-Stops-clause-items
@@ -40,7 +38,6 @@ returns-in-Stops-clause-rest g c =
 pub overflow_add-at : goal.overflow_add-at
 overflow_add-at g c =
     let v = c.loop-count.invariant in
-    let t = items_turn c.args.set c.args.values.now c.loop-count.at c.in-Takes.count c.in-Takes.item
-    c.args.message.now c.loop-count.message c.add.new.self (items_in c.args.set c.args.values.now) v.in_range
-    c.in-Takes.ensures c.add.ensures v.so_far in
+    let t = items_turn _ _ _ _ _ _ _ _ (items_in c.args.set c.args.values.now) v.in_range c.in-Takes.ensures
+    c.add.ensures v.so_far in
     omega (arith, t.2, c.requires.room)

@@ -4,6 +4,5 @@ use Rattle.dm_words.proofs.contents.designation.designator_part.Goals as goal
 
 pub returns-in-Some : goal.returns-in-Some
 returns-in-Some g c =
-    designator_found c.args.at _ c.in-Some.designator c.args.found.now.items c.push.new.self.items
-    (ap first_designator (sym (take_rest c.args.words.now (c.args.at + 1))) ∙ sym c.first_designator.ensures
-    ∙ c.in-Some.is) c.push.ensures.items
+    designator_found _ _ _ _ _ (ap first_designator (sym (take_rest c.args.words.now (c.args.at + 1))) ∙ sym
+    c.first_designator.ensures ∙ c.in-Some.is) c.push.ensures.items

@@ -20,6 +20,4 @@ loop-word-preserved c =
     ]
 
 pub returns : goal.returns
-returns c =
-    all_counted c.args.words.now c.loop-word.word-index c.loop-word.count
-    (omega (arith, c.loop-word-test.false)) c.loop-word.invariant.words
+returns c = all_counted _ _ _ (omega (arith, c.loop-word-test.false)) c.loop-word.invariant.words

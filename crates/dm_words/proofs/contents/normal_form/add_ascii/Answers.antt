@@ -27,5 +27,4 @@ loop-at-smaller g c =
     omega (arith, h.some, h.within, c.write_unit-at.ensures.item_count)
 
 pub returns : goal.returns
-returns g c =
-    units_end c.args.items.now c.loop-at.at _ c.loop-at.words.items c.loop-at-test.false c.loop-at.invariant.so_far
+returns g c = units_end _ _ _ _ c.loop-at-test.false c.loop-at.invariant.so_far

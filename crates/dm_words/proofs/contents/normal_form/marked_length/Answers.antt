@@ -4,28 +4,24 @@ use Rattle.dm_words.proofs.contents.normal_form.marked_length.Goals as goal
 
 pub slice_bounds-ascii_form-end : goal.slice_bounds-ascii_form-end
 slice_bounds-ascii_form-end c =
-    let t = turn c.args.items.now c.args.marks.now c.loop-mark.before c.loop-mark.mark-index
-    (record { place = 0; number = 0 }) c.loop-mark-test.true c.loop-mark.invariant.in_order in
+    let t = turn _ _ _ _ (record { place = 0; number = 0 }) c.loop-mark-test.true c.loop-mark.invariant.in_order in
     omega (arith, t.within)
 
 pub overflow_add-length : goal.overflow_add-length
 overflow_add-length c =
-    let t = turn c.args.items.now c.args.marks.now c.loop-mark.before c.loop-mark.mark-index
-    (record { place = 0; number = 0 }) c.loop-mark-test.true c.loop-mark.invariant.in_order in
+    let t = turn _ _ _ _ (record { place = 0; number = 0 }) c.loop-mark-test.true c.loop-mark.invariant.in_order in
     let p = piece_short c.args.items.now c.loop-mark.before _ t.from t.within in
     omega (arith, t.from, t.within, p, c.ascii_form.ensures.length, c.mark_length.ensures.most, c.requires.few)
 
 pub overflow_add-length-in-loop-mark : goal.overflow_add-length-in-loop-mark
 overflow_add-length-in-loop-mark c =
-    let t = turn c.args.items.now c.args.marks.now c.loop-mark.before c.loop-mark.mark-index
-    (record { place = 0; number = 0 }) c.loop-mark-test.true c.loop-mark.invariant.in_order in
+    let t = turn _ _ _ _ (record { place = 0; number = 0 }) c.loop-mark-test.true c.loop-mark.invariant.in_order in
     let p = piece_short c.args.items.now c.loop-mark.before _ t.from t.within in
     omega arith
 
 pub loop-mark-preserved : goal.loop-mark-preserved
 loop-mark-preserved c =
-    let t = turn c.args.items.now c.args.marks.now c.loop-mark.before c.loop-mark.mark-index
-    (record { place = 0; number = 0 }) c.loop-mark-test.true c.loop-mark.invariant.in_order in
+    let t = turn _ _ _ _ (record { place = 0; number = 0 }) c.loop-mark-test.true c.loop-mark.invariant.in_order in
     let p = piece_short c.args.items.now c.loop-mark.before _ t.from t.within in
     record {
       within = t.within;

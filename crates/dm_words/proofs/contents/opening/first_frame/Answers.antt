@@ -4,9 +4,8 @@ use Rattle.dm_words.proofs.contents.opening.first_frame.Goals as goal
 
 pub returns-in-Some-digit_of : goal.returns-in-Some-digit_of
 returns-in-Some-digit_of c =
-    macro_next c.args.words.now c.loop-word.at c.in-Some.word c.in-Some-digit_of.digit _ (sym c.word_at.ensures
-    ∙ c.in-Some.is)
-    (sym c.digit_of.ensures ∙ c.in-Some-digit_of.is) c.loop-word.invariant.so_far
+    macro_next _ _ _ _ _ (sym c.word_at.ensures ∙ c.in-Some.is) (sym c.digit_of.ensures ∙ c.in-Some-digit_of.is)
+    c.loop-word.invariant.so_far
 
 pub returns-then-not-is_empty_run : goal.returns-then-not-is_empty_run
 returns-then-not-is_empty_run c =
@@ -18,10 +17,8 @@ returns-then-not-is_empty_run c =
 
 pub loop-word-preserved : goal.loop-word-preserved
 loop-word-preserved c =
-    let r = run_next c.args.words.now c.loop-word.at c.in-Some.word c.word_at-in-Some.result _ (sym c.word_at.ensures
-    ∙ c.in-Some.is)
-    (sym c.word_at-in-Some.ensures) (sym c.digit_of.ensures ∙ c.in_default-digit_of.is) (sym c.is_empty_run.ensures
-    ∙ c.if-not-is_empty_run.false)
+    let r = run_next _ _ _ _ _ (sym c.word_at.ensures ∙ c.in-Some.is) (sym c.word_at-in-Some.ensures)
+    (sym c.digit_of.ensures ∙ c.in_default-digit_of.is) (sym c.is_empty_run.ensures ∙ c.if-not-is_empty_run.false)
     c.loop-word.invariant.so_far in
     record { in_range = r.0; so_far = r.1 }
 

@@ -9,8 +9,7 @@ loop-count-init g c =
     let marks = c.args.marks.now.items in
     record {
       in_range = e.within;
-      content = one_words_leave _ _ _ c.one_word_parts-at.result c.args.message.now c.one_word_parts-at.new.message
-          marks c.requires.so_far e.from e.no_fewer e.two_for_each_codeword;
+      content = one_words_leave _ _ _ _ _ _ marks c.requires.so_far e.from e.no_fewer e.two_for_each_codeword;
       count = e.two_for_each_codeword;
       so_far = e.said c.args.extent marks;
     }
@@ -18,8 +17,7 @@ loop-count-init g c =
 pub overflow_add-at : goal.overflow_add-at
 overflow_add-at g c =
     let v = c.loop-count.invariant in
-    let r =
-    goes_on c.args.extent _ _ c.args.start _ c.in-Some.count (items_with c.args.marks.now.items c.args.message.now) _
+    let r = goes_on _ _ _ _ _ _ (items_with c.args.marks.now.items c.args.message.now) _
     (items_with c.next_content_part.new.marks.items c.next_content_part.new.message) _
     (λ i. omega (arith, c.type_inv.words i)) v.in_range v.content v.count (rw c.in-Some.is at c.in_ok-count.ensures)
     v.so_far in
@@ -28,8 +26,7 @@ overflow_add-at g c =
 pub one_word_parts-at-requires-in-Some : goal.one_word_parts-at-requires-in-Some
 one_word_parts-at-requires-in-Some g c =
     let v = c.loop-count.invariant in
-    let r =
-    goes_on c.args.extent _ _ c.args.start _ c.in-Some.count (items_with c.args.marks.now.items c.args.message.now) _
+    let r = goes_on _ _ _ _ _ _ (items_with c.args.marks.now.items c.args.message.now) _
     (items_with c.next_content_part.new.marks.items c.next_content_part.new.message) _
     (λ i. omega (arith, c.type_inv.words i)) v.in_range v.content v.count (rw c.in-Some.is at c.in_ok-count.ensures)
     v.so_far in
@@ -38,8 +35,7 @@ one_word_parts-at-requires-in-Some g c =
 pub loop-count-preserved : goal.loop-count-preserved
 loop-count-preserved g c =
     let v = c.loop-count.invariant in
-    let r =
-    goes_on c.args.extent _ _ c.args.start _ c.in-Some.count (items_with c.args.marks.now.items c.args.message.now) _
+    let r = goes_on _ _ _ _ _ _ (items_with c.args.marks.now.items c.args.message.now) _
     (items_with c.next_content_part.new.marks.items c.next_content_part.new.message) _
     (λ i. omega (arith, c.type_inv.words i)) v.in_range v.content v.count (rw c.in-Some.is at c.in_ok-count.ensures)
     v.so_far in
@@ -47,8 +43,7 @@ loop-count-preserved g c =
     let marks = c.next_content_part.new.marks.items in
     record {
       in_range = e.within;
-      content = one_words_leave _ _ _ c.one_word_parts-at-in-Some.result c.next_content_part.new.message
-          c.one_word_parts-at-in-Some.new.message marks r.content e.from e.no_fewer e.two_for_each_codeword;
+      content = one_words_leave _ _ _ _ _ _ marks r.content e.from e.no_fewer e.two_for_each_codeword;
       count = omega (arith, r.count, e.two_for_each_codeword);
       so_far = e.said c.args.extent marks ∙ r.so_far;
     }
@@ -56,8 +51,7 @@ loop-count-preserved g c =
 pub loop-count-smaller : goal.loop-count-smaller
 loop-count-smaller g c =
     let v = c.loop-count.invariant in
-    let r =
-    goes_on c.args.extent _ _ c.args.start _ c.in-Some.count (items_with c.args.marks.now.items c.args.message.now) _
+    let r = goes_on _ _ _ _ _ _ (items_with c.args.marks.now.items c.args.message.now) _
     (items_with c.next_content_part.new.marks.items c.next_content_part.new.message) _
     (λ i. omega (arith, c.type_inv.words i)) v.in_range v.content v.count (rw c.in-Some.is at c.in_ok-count.ensures)
     v.so_far in
@@ -73,6 +67,5 @@ returns-clause-read g c =
 pub returns-in_err-count-clause-read : goal.returns-in_err-count-clause-read
 returns-in_err-count-clause-read g c =
     let p = err_from_is_err_and c.from_residual.result c.from_residual.ensures.1 in
-    rw (p.1, p.2) (sym (stops_on c.args.extent c.args.words.now c.loop-count.at
-    (items_with c.loop-count.marks.items c.loop-count.message) (Some c.in_err-count.field-0.0) _ c.in_err-count.ensures
-    c.loop-count.invariant.so_far))
+    rw (p.1, p.2) (sym (stops_on _ _ _ (items_with c.loop-count.marks.items c.loop-count.message)
+    (Some c.in_err-count.field-0.0) _ c.in_err-count.ensures c.loop-count.invariant.so_far))

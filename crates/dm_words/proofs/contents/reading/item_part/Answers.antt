@@ -3,9 +3,7 @@ use Rattle.dm_words.proofs.ContentLoops.{item_taken, item_fault}
 use Rattle.dm_words.proofs.contents.reading.item_part.Goals as goal
 
 pub returns-in-Ok : goal.returns-in-Ok
-returns-in-Ok g c =
-    item_taken c.args.extent (c.args.at + 1) (drop c.args.at c.args.words.now) c.in-Ok.count c.args.message.now
-    c.next_part.new.message c.requires.other c.in-Ok.ensures
+returns-in-Ok g c = item_taken _ (c.args.at + 1) _ _ _ _ c.requires.other c.in-Ok.ensures
 
 pub returns-in-Err : goal.returns-in-Err
 returns-in-Err g c = λ marks.

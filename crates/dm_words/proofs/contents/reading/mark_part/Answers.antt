@@ -17,8 +17,7 @@ add_mark-requires g c = (
 
 pub returns-in-Some : goal.returns-in-Some
 returns-in-Some g c =
-    mark_found (c.args.at + 1) _ c.in-Some.designator (items_with c.args.marks.now.items c.args.message.now)
-    (items_with c.add_mark.new.marks.items c.args.message.now)
-    (ap first_designator (sym (take_rest c.args.words.now (c.args.at + 1))) ∙ sym c.first_designator.ensures
-    ∙ c.in-Some.is) refl
-    refl c.add_mark.ensures
+    mark_found (c.args.at + 1) _ _ (items_with c.args.marks.now.items c.args.message.now)
+    (items_with c.add_mark.new.marks.items c.args.message.now) (ap first_designator
+    (sym (take_rest c.args.words.now (c.args.at + 1))) ∙ sym c.first_designator.ensures ∙ c.in-Some.is) refl refl
+    c.add_mark.ensures

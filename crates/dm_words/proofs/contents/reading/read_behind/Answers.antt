@@ -9,9 +9,8 @@ add_opening-requires g c =
 
 pub add_content_parts-requires : goal.add_content_parts-requires
 add_content_parts-requires g c =
-    let b = begins_at c.args.extent g.row.ROOM c.args.words.now c.args.found c.args.message.now
-    c.add_opening.new.message c.args.marks.now.items c.args.marks.now.items c.requires.found c.requires.room
-    c.requires.no_item c.requires.no_mark c.add_opening.ensures refl in (
+    let b = begins_at _ g.row.ROOM _ _ _ _ _ _ c.requires.found c.requires.room c.requires.no_item c.requires.no_mark
+    c.add_opening.ensures refl in (
       search rules,
       (
         search rules,

@@ -10,13 +10,10 @@ returns-in_default-clause-content g c =
 
 pub returns-in-Ok-clause-content : goal.returns-in-Ok-clause-content
 returns-in-Ok-clause-content g c =
-    rw c.opening_head.ensures
-    (is_content_result c.args.extent c.args.words.now _ (λ i. omega (arith, c.type_inv.words i))
-    (c.in-Ok.ensures
-    ∙ sym (ap (content_by c.args.extent c.args.words.now) (sym c.opening_of.ensures ∙ c.in-Some.is))))
+    rw c.opening_head.ensures (is_content_result _ _ _ (λ i. omega (arith, c.type_inv.words i)) (c.in-Ok.ensures ∙ sym
+    (ap (content_by c.args.extent c.args.words.now) (sym c.opening_of.ensures ∙ c.in-Some.is))))
 
 pub returns-in-Err-clause-content : goal.returns-in-Err-clause-content
 returns-in-Err-clause-content g c =
-    is_content_result c.args.extent c.args.words.now (Err c.in-Err.fault) (λ i. omega (arith, c.type_inv.words i))
-    (c.in-Err.ensures
-    ∙ sym (ap (content_by c.args.extent c.args.words.now) (sym c.opening_of.ensures ∙ c.in-Some.is)))
+    is_content_result _ _ (Err c.in-Err.fault) (λ i. omega (arith, c.type_inv.words i)) (c.in-Err.ensures ∙ sym
+    (ap (content_by c.args.extent c.args.words.now) (sym c.opening_of.ensures ∙ c.in-Some.is)))

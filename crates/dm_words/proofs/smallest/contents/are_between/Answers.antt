@@ -6,8 +6,7 @@ use Rattle.dm_words.proofs.smallest.contents.are_between.Goals.{then-place-least
 
 pub returns-then-place-least-clause-no : goal.returns-then-place-least-clause-no
 returns-then-place-least-clause-no c = λ are.
-    let e = each_within c.args.least c.args.most c.loop-mark.mark-index c.args.marks.now
-    (record { place = 0; number = 0 }) are c.loop-mark-test.true in
+    let e = each_within _ _ _ _ (record { place = 0; number = 0 }) are c.loop-mark-test.true in
     elim c.then-place-least.branch [
       | then-place-least-via-then-place-least w ↦ absurd
           (omega (arith, w.if-place-least.true, e.0, c.from-place.ensures))

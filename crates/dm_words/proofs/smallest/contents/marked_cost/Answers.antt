@@ -47,5 +47,4 @@ loop-k-preserved c =
     }
 
 pub returns-clause-message : goal.returns-clause-message
-returns-clause-message c =
-    all_items c.args.items.now c.loop-k.end c.text_cost.ensures.message c.loop-k.invariant.message
+returns-clause-message c = all_items _ _ c.text_cost.ensures.message c.loop-k.invariant.message

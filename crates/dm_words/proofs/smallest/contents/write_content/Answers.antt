@@ -13,9 +13,8 @@ returns-then-length-total-clause-says g c =
     let marks = c.args.marks.now in
     let new = c.write_form.new.words.items in
     let first = head_words c.args.head in
-    says_so (padded new c.args.count) (view_of c.args.head items marks)
-    (says_by_head c.args.count first new c.args.head items marks c.requires.head refl
-    (form_said c.args.count first new items marks (recursion_from_All IsItem items c.requires.message)
+    says_so (padded new c.args.count) (view_of c.args.head items marks) (says_by_head _ first new _ items marks
+    c.requires.head refl (form_said _ first new items marks (recursion_from_All IsItem items c.requires.message)
     c.requires.in_order c.write_form.ensures)
     (omega (arith, ap length c.write_form.ensures, length-append first (ascii_with_marks 0 items marks))))
 
@@ -77,8 +76,7 @@ returns-in-None-clause-form g c =
     let base_is : base ≡ head_words c.args.head = c.add_words.ensures
     ∙ ap (λ (l : List ℕ). l ++ c.as_slice.result.now) c.clear.ensures ∙ c.as_slice.ensures.value
     ∙ c.head_words.ensures in
-    headed_form c.args.count base new c.args.head items marks
-    (record {
+    headed_form _ base new _ items marks (record {
       head = c.requires.head;
       items = recursion_from_All IsItem items c.requires.message;
       marks = c.requires.in_order;

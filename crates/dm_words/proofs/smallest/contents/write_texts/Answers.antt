@@ -21,8 +21,7 @@ loop-k-init g c =
 
 pub slice_bounds-write_text-end : goal.slice_bounds-write_text-end
 slice_bounds-write_text-end g c =
-    let f = forth c.args.seen c.args.items.now c.args.marks.now c.loop-k.k c.loop-k.from
-    (record { place = 0; number = 0 }) c.loop-k-test.true c.loop-k.invariant.in_order in
+    let f = forth _ _ _ _ _ (record { place = 0; number = 0 }) c.loop-k-test.true c.loop-k.invariant.in_order in
     omega (arith, f.within, c.from.ensures)
 
 pub write_text-requires : goal.write_text-requires
@@ -93,12 +92,10 @@ loop-k-preserved g c =
 pub returns-clause-said : goal.returns-clause-said
 returns-clause-said g c =
     let v = c.loop-k.invariant in
-    texts_end _ _ _ _ _ c.args.items.now c.args.marks.now c.loop-k.k c.loop-k.from c.loop-k-test.false v.said
-    c.write_text-2.ensures.parts
+    texts_end _ _ _ _ _ _ _ _ _ c.loop-k-test.false v.said c.write_text-2.ensures.parts
 
 pub returns-clause-sign : goal.returns-clause-sign
 returns-clause-sign g c =
     let v = c.loop-k.invariant in
-    sign_end c.args.words.now.items c.loop-k.words.items c.write_text-2.new.words.items
-    (spelled c.write_text-2.ensures.parts.parts) c.args.seen c.args.items.now c.args.marks.now c.loop-k.k c.loop-k.from
-    c.loop-k-test.false v.first v.sign c.write_text-2.ensures.sign c.write_text-2.ensures.parts.whole
+    sign_end _ _ _ (spelled c.write_text-2.ensures.parts.parts) _ _ _ _ _ c.loop-k-test.false v.first v.sign
+    c.write_text-2.ensures.sign c.write_text-2.ensures.parts.whole

@@ -9,20 +9,17 @@ use Rattle.dm_words.proofs.smallest.edifact.write_edifact.Goals.{In-loop-words}
 
 pub loop-words-init : goal.loop-words-init
 loop-words-init g c =
-    let f = first_of_groups c.args.setting c.args.items.now c.args.at Fnc1 (length c.push.new.self.items)
-    c.args.total c.requires.at (omega (arith, c.requires.budget, c.push.ensures.len))
+    let f = first_of_groups _ _ _ Fnc1 _ _ c.requires.at (omega (arith, c.requires.budget, c.push.ensures.len))
     (omega (arith, c.requires.total)) in
     let begun = edifact_begun c.args.words.now.items c.push.new.self.items c.push.ensures.items in
     record {
       from = omega arith;
       within = omega (arith, c.requires.at);
       wide = f.wide;
-      budget = after_value group.Empty c.push_value-group.result _ c.args.total c.push.new.self.items
-          c.push_value-group.new.words.items _ c.push_value-group.ensures f.budget;
-      so_far = edifact_item c.args.words.now.items c.push.new.self.items c.push_value-group.new.words.items group.Empty
-          c.push_value-group.result c.args.items.now c.args.at c.args.at Fnc1 c.byte.result f.byte (omega arith)
-          c.requires.at f.is f.low f.high c.byte.ensures
-          (rw (ap (λ (k : ℕ). take k (drop c.args.at c.args.items.now)) zero_is) at begun) c.push_value-group.ensures;
+      budget = after_value group.Empty _ _ _ _ _ _ c.push_value-group.ensures f.budget;
+      so_far = edifact_item _ _ _ group.Empty _ _ _ _ Fnc1 _ f.byte (omega arith) c.requires.at f.is f.low f.high
+          c.byte.ensures (rw (ap (λ (k : ℕ). take k (drop c.args.at c.args.items.now)) zero_is) at begun)
+          c.push_value-group.ensures;
     } where
       zero_is : 0 ≡ c.args.at - c.args.at
       zero_is = omega arith
@@ -32,10 +29,8 @@ goes : (g : _) (c : In-loop-words g)
     → IsGroupPaidAt c.args.setting c.args.items.now c.loop-words.next Fnc1 c.loop-words.group
     (length c.loop-words.words.items) c.args.total
 goes g c =
-    group_at c.args.setting c.args.items.now c.loop-words.next Fnc1 _ c.loop-words.group
-    (length c.loop-words.words.items) c.args.total c.goes_on.result
-    (c.requires.plan c.loop-words.next _ c.loop-words.invariant.within) c.loop-words.invariant.budget
-    (omega (arith, c.requires.total)) c.goes_on.ensures c.loop-words-test.true
+    group_at _ _ _ Fnc1 _ _ _ _ _ (c.requires.plan c.loop-words.next _ c.loop-words.invariant.within)
+    c.loop-words.invariant.budget (omega (arith, c.requires.total)) c.goes_on.ensures c.loop-words-test.true
 
 pub bounds-items-next : goal.bounds-items-next
 bounds-items-next g c = (goes g (goal.at.bounds-items-next g c).In-loop-words).there
@@ -56,35 +51,27 @@ loop-words-preserved g c =
       from = omega (arith, v.from);
       within = omega (arith, r.there);
       wide = v.wide;
-      budget = after_value c.loop-words.group c.push_value-group-in-loop-words.result _ c.args.total
-          c.loop-words.words.items c.push_value-group-in-loop-words.new.words.items _
-          c.push_value-group-in-loop-words.ensures r.budget;
-      so_far =
-          edifact_item _ _ c.push_value-group-in-loop-words.new.words.items _ c.push_value-group-in-loop-words.result
-          c.args.items.now c.args.at c.loop-words.next Fnc1 _ r.byte (omega (arith, v.from)) r.there r.is r.low r.high
+      budget = after_value _ _ _ _ _ _ _ c.push_value-group-in-loop-words.ensures r.budget;
+      so_far = edifact_item _ _ _ _ _ _ _ _ Fnc1 _ r.byte (omega (arith, v.from)) r.there r.is r.low r.high
           c.byte-in-loop-words.ensures v.so_far c.push_value-group-in-loop-words.ensures;
     }
 
 pub end_run-requires : goal.end_run-requires
 end_run-requires g c =
-    let room =
-    waiting_room c.loop-words.group (length c.loop-words.words.items) c.args.total _ c.loop-words.invariant.budget in
+    let room = waiting_room _ _ _ _ c.loop-words.invariant.budget in
     (search rules, (search rules, (room, (c.requires.total, c.requires.most))))
 
 pub returns-clause-budget : goal.returns-clause-budget
 returns-clause-budget g c =
-    ended_budget c.loop-words.group c.args.total (parts_cost c.args.setting (drop c.loop-words.next c.args.items.now))
-    c.loop-words.words.items c.end_run.new.words.items (leave_groups c.args.setting
-    (drop c.loop-words.next c.args.items.now) _ c.loop-words.group (length c.loop-words.words.items) c.args.total _
-    (c.requires.plan c.loop-words.next _ c.loop-words.invariant.within) c.loop-words.invariant.budget c.goes_on.ensures
-    c.loop-words-test.false) c.end_run.ensures
+    ended_budget _ _ (parts_cost c.args.setting (drop c.loop-words.next c.args.items.now)) _ _ (leave_groups _ _ _ _ _ _
+    _ (c.requires.plan c.loop-words.next _ c.loop-words.invariant.within) c.loop-words.invariant.budget
+    c.goes_on.ensures c.loop-words-test.false) c.end_run.ensures
 
 pub returns-clause-part : goal.returns-clause-part
 returns-clause-part g c =
     let v = c.loop-words.invariant in
-    let l = leave_groups c.args.setting (drop c.loop-words.next c.args.items.now) _ c.loop-words.group
-    (length c.loop-words.words.items) c.args.total c.goes_on.result (c.requires.plan c.loop-words.next _ v.within)
-    v.budget c.goes_on.ensures c.loop-words-test.false in
+    let l = leave_groups _ _ _ _ _ _ _ (c.requires.plan c.loop-words.next _ v.within) v.budget c.goes_on.ensures
+    c.loop-words-test.false in
     edifact_written c.args.setting.extent c.args.total c.args.words.now.items c.loop-words.words.items
     c.end_run.new.words.items (take (c.loop-words.next - c.args.at) (drop c.args.at c.args.items.now))
     c.loop-words.group

@@ -77,8 +77,7 @@ returns-in-Two-clause-part g c =
     let word : c.digit_pair.result ≡ digit_pair (byte_of (get_or c.args.items.now c.args.at Fnc1))
     (byte_of (get_or c.args.items.now (c.args.at + 1) Fnc1)) = cc
     (c.digit_pair.ensures, c.byte.ensures, c.byte-in-Two.ensures) in
-    two_written c.args.setting.extent c.args.total c.args.words.now.items c.push.new.self.items c.digit_pair.result
-    c.args.items.now c.args.at Fnc1 q.second_there q.first q.second word c.push.ensures.items
+    two_written _ _ _ _ _ _ _ Fnc1 q.second_there q.first q.second word c.push.ensures.items
 
 pub returns-in-Two-clause-usual : goal.returns-in-Two-clause-usual
 returns-in-Two-clause-usual g c = λ usual.
@@ -86,8 +85,7 @@ returns-in-Two-clause-usual g c = λ usual.
     let word : c.digit_pair.result ≡ digit_pair (byte_of (get_or c.args.items.now c.args.at Fnc1))
     (byte_of (get_or c.args.items.now (c.args.at + 1) Fnc1)) = cc
     (c.digit_pair.ensures, c.byte.ensures, c.byte-in-Two.ensures) in
-    two_written Usual c.args.total c.args.words.now.items c.push.new.self.items c.digit_pair.result c.args.items.now
-    c.args.at Fnc1 q.second_there q.first q.second word c.push.ensures.items
+    two_written Usual _ _ _ _ _ _ Fnc1 q.second_there q.first q.second word c.push.ensures.items
 
 pub write_run-requires : goal.write_run-requires
 write_run-requires g c =
@@ -175,8 +173,7 @@ returns-in-Two-clause-sign g c =
     let word : c.digit_pair.result ≡ digit_pair (byte_of (get_or c.args.items.now c.args.at Fnc1))
     (byte_of (get_or c.args.items.now (c.args.at + 1) Fnc1)) = cc
     (c.digit_pair.ensures, c.byte.ensures, c.byte-in-Two.ensures) in
-    two_passes c.args.items.now c.args.at Fnc1 c.args.words.now.items c.push.new.self.items q.second_there
-    q.first q.second c.digit_pair.result word c.push.ensures.items
+    two_passes _ _ Fnc1 _ _ q.second_there q.first q.second _ word c.push.ensures.items
 
 pub returns-in-Run-clause-sign : goal.returns-in-Run-clause-sign
 returns-in-Run-clause-sign g c =

@@ -19,10 +19,8 @@ goes : (g : _) (c : In-loop-set g)
     → IsPaidAt c.args.setting c.args.set c.args.items.now c.loop-set.next Fnc1 c.loop-set.part
     (length c.loop-set.words.items) c.args.total
 goes g c =
-    run_at c.args.setting c.args.set c.args.items.now c.loop-set.next Fnc1 _ c.loop-set.part
-    (length c.loop-set.words.items) c.args.total c.goes_on.result
-    (c.requires.plan c.loop-set.next _ c.loop-set.invariant.within) c.loop-set.invariant.budget
-    (omega (arith, c.requires.total)) c.goes_on.ensures c.loop-set-test.true
+    run_at _ _ _ _ Fnc1 _ _ _ _ _ (c.requires.plan c.loop-set.next _ c.loop-set.invariant.within)
+    c.loop-set.invariant.budget (omega (arith, c.requires.total)) c.goes_on.ensures c.loop-set-test.true
 
 pub push_spelling-part-requires : goal.push_spelling-part-requires
 push_spelling-part-requires g c =
@@ -44,15 +42,12 @@ push_spelling-part-requires g c =
 pub loop-set-init : goal.loop-set-init
 loop-set-init g c =
     let f = begins g (goal.at.loop-set-init g c).After-push in
-    let begun =
-    run_begun c.args.set c.args.words.now.items c.push.new.self.items c.latch.result c.latch.ensures
-    c.push.ensures.items in
+    let begun = run_begun _ _ _ _ c.latch.ensures c.push.ensures.items in
     let pushed = rw c.empty.ensures at c.push_spelling-part.ensures in
     record {
       from = omega arith;
       within = omega (arith, c.requires.at);
-      budget = after_item c.args.set _ Waiting.Empty c.push_spelling-part.result c.push.new.self.items
-          c.push_spelling-part.new.words.items c.args.total _ pushed f.budget;
+      budget = after_item _ _ Waiting.Empty _ _ _ _ _ pushed f.budget;
       so_far = subst
           (λ (l : List Item). IsRunSoFar c.args.set c.args.words.now.items c.push_spelling-part.new.words.items
           c.push_spelling-part.result l)
@@ -83,8 +78,7 @@ loop-set-preserved g c =
     record {
       from = omega (arith, v.from);
       within = omega (arith, r.there);
-      budget = after_item c.args.set _ c.loop-set.part c.push_item-part.result c.loop-set.words.items
-          c.push_item-part.new.words.items c.args.total _ c.push_item-part.ensures r.budget;
+      budget = after_item _ _ _ _ _ _ _ _ c.push_item-part.ensures r.budget;
       so_far = subst
           (λ (l : List Item). IsRunSoFar c.args.set c.args.words.now.items
           c.push_item-part.new.words.items c.push_item-part.result l)

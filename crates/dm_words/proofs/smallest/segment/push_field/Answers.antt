@@ -5,8 +5,7 @@ use Rattle.dm_words.proofs.smallest.segment.push_field.Goals.{else-count-gt-MOST
 
 pub returns-then-len-count : goal.returns-then-len-count
 returns-then-len-count g c =
-    field_to_end c.args.total c.args.count c.args.words.now.items c.push_value.new.words.items
-    (omega (arith, c.len.ensures.value, c.if-len-count.true)) c.push_value.ensures
+    field_to_end _ _ _ _ (omega (arith, c.len.ensures.value, c.if-len-count.true)) c.push_value.ensures
 
 pub returns-else-count-gt-MOST_SHORT : goal.returns-else-count-gt-MOST_SHORT
 returns-else-count-gt-MOST_SHORT g c =

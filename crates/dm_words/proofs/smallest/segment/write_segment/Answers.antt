@@ -11,8 +11,7 @@ returns-clause-fits g c =
 pub returns-clause-most : goal.returns-clause-most
 returns-clause-most g c =
     let f = c.push_field.ensures in
-    let l = field_length c.args.words.now.items c.push.new.self.items c.push_field.new.words.items
-    c.write_bytes.new.words.items f.field c.args.items.now c.push.ensures.items f.words_are c.write_bytes.ensures in
+    let l = field_length _ _ _ _ f.field _ c.push.ensures.items f.words_are c.write_bytes.ensures in
     omega (arith, f.few, l)
 
 pub returns-clause-part : goal.returns-clause-part

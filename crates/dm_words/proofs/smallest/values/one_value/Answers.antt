@@ -12,5 +12,4 @@ spelled set byte item None is means = tt
 spelled set byte item (Some value) is means = IsSpelling.character byte (plain value means refl) is
 
 pub returns-in-Byte-clause-value : goal.returns-in-Byte-clause-value
-returns-in-Byte-clause-value c =
-    spelled c.args.set c.in-Byte.byte c.args.item c.basic_value.result c.in-Byte.is c.basic_value.ensures.value
+returns-in-Byte-clause-value c = spelled _ _ _ _ c.in-Byte.is c.basic_value.ensures.value

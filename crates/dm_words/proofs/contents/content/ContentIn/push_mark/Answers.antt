@@ -5,6 +5,5 @@ use Rattle.dm_words.proofs.contents.content.ContentIn.push_mark.Goals as goal
 pub invariant_of-self : goal.invariant_of-self
 invariant_of-self g c = (
   c.self.invariant.0,
-  one_more_mark c.self.inside.message c.self.inside.message c.self.inside.marks.items
-      c.add_mark.new.marks.items c.args.number c.self.invariant.1 c.requires.assigned refl c.add_mark.ensures,
+  one_more_mark _ _ _ _ _ c.self.invariant.1 c.requires.assigned refl c.add_mark.ensures,
 )
