@@ -1,4 +1,4 @@
-use Rattle.dm_words.proofs.Names.{◌∙◌, ℕ, ◌-◌, List, [], ◌∷◌, ◌++◌, ap, arith, subst, rules, length, recursion_from_All}
+use Rattle.dm_words.proofs.Names.{◌∙◌, ℕ, List, [], ◌∷◌, ◌++◌, ap, arith, subst, rules, length, recursion_from_All}
 use Rattle.dm_words.proofs.Names.{Setting, IsItem, ArePartsWritten}
 use Rattle.dm_words.proofs.SmallestSymbols.{macro_spells}
 use Rattle.dm_words.proofs.PlainForms.{macro_form}

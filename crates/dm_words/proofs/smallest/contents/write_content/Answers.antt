@@ -1,4 +1,4 @@
-use Rattle.dm_words.proofs.Names.{◌≡◌, ◌∙◌, ℕ, ◌-◌, List, [], ◌∷◌, ◌++◌, length, ap, sym, subst, refl, arith, rules}
+use Rattle.dm_words.proofs.Names.{◌≡◌, ◌∙◌, ℕ, List, [], ◌∷◌, ◌++◌, length, ap, sym, subst, refl, arith, rules}
 use Rattle.dm_words.proofs.Names.{length-append, Option, None, recursion_from_All, Wide, Head, head_words}
 use Rattle.dm_words.proofs.Names.{ascii_with_marks, content_form, macro_text, BeginsFnc1, IsItem, padded, SaysThenPads}
 use Rattle.dm_words.proofs.Names.{view_of, AreSaid, Ascii}
