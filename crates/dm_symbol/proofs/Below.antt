@@ -1,7 +1,5 @@
 -- What the layers below promise, as the proofs here cite it.
-use Rattle.std.proofs.Common.{◌≡◌, ℕ, ◌+◌, ◌<◌, ◌≤◌, List, ◌++◌, length}
-use Rattle.std.specs.List.{All}
-use Rattle.dm_code.specs.Codeword.{IsCodeword, distance}
+use Rattle.dm_symbol.proofs.Names.{◌≡◌, ℕ, ◌+◌, ◌<◌, ◌≤◌, List, ◌++◌, length, All, IsCodeword, distance}
 use Rattle.dm_code.proofs.Exported.{codewords_one, codeword_bytes, checks_are_there as checks_are_there_of}
 
 -- Two codewords of one length and of k check codewords that differ at no more than k places are equal.

@@ -1,6 +1,5 @@
 -- Choosing a list for each of finitely many numbers.
-use Rattle.std.proofs.Common.{ℕ, ◌<◌, ◌≤◌, ◌⊎◌, List, [], inl, inr, arith}
-use Rattle.std.proofs.lemmas.Bool.{cases_lt}
+use Rattle.dm_symbol.proofs.Names.{ℕ, ◌<◌, ◌≤◌, ◌⊎◌, List, [], inl, inr, arith, cases_lt}
 
 -- Where each number below n has a list with a property, some function gives one for each.
 pub chosen : (n : ℕ) (P : ℕ → List ℕ → Type 0) → ((b : ℕ) → b < n → (list : List ℕ) × P b list)

@@ -1,28 +1,13 @@
 -- Data codewords that are chosen for a content in a form: the symbol in which they are laid is the one in which it is
 -- written.
-use Rattle.std.proofs.Common.{◌≡◌, ◌∙◌, ◌<◌, ℕ, List, length, Some, None, Option, Result, Ok, Err, refl, ap, arith}
-use Rattle.std.specs.Prelude.{IfOk, IsSome, OnErr}
-use Rattle.std.proofs.lemmas.Bool.{false≢true}
-use Rattle.dm_layout.specs.declared.symbols.size.SizeChoice.{SizeChoice}
-use Rattle.dm_layout.specs.symbols.Sizes.{SizeEntry, IsSize, entry_for}
-use Rattle.dm_layout.specs.symbols.Symbols.{SymbolView}
-use Rattle.dm_layout.specs.symbols.Words.{WordsView}
-use Rattle.dm_layout.specs.symbols.Holding.{IsLaid}
-use Rattle.dm_layout.proofs.symbols.Exported.{size_facts}
-use Rattle.dm_words.specs.declared.extent.Extent.{Extent}
-use Rattle.dm_words.specs.declared.fault.TooLong.{TooLong}
-use Rattle.dm_words.specs.declared.item.Item.{Item}
+use Rattle.dm_symbol.proofs.Names.{◌≡◌, ◌∙◌, ◌<◌, ℕ, List, length, Some, None, Option, Result, Ok, Err, refl, ap, arith}
+use Rattle.dm_symbol.proofs.Names.{IfOk, IsSome, OnErr, false≢true, SizeChoice, SizeEntry, IsSize, entry_for}
+use Rattle.dm_symbol.proofs.Names.{SymbolView, WordsView, IsLaid, size_facts, Extent, TooLong, Item, ContentView}
+use Rattle.dm_symbol.proofs.Names.{content_form, Form, Profiled, Smallest, IsSmallestContentWritten, AreCodewordsOf}
+use Rattle.dm_symbol.proofs.Names.{first_data, AreChosen, IsWrittenAs, FitChoice}
 use Rattle.dm_words.specs.declared.contents.head.Head.{Head}
 use Rattle.dm_words.specs.declared.contents.mark.Mark.{Mark}
-use Rattle.dm_words.specs.Contents.{ContentView}
-use Rattle.dm_words.specs.ContentForm.{content_form}
 use Rattle.dm_words.specs.SmallestContents.{IsSmallestContentResult}
-use Rattle.dm_symbol.specs.declared.contents.writing.Form.{Form}
-use Rattle.dm_symbol.specs.declared.contents.writing.Form.TheVariants.{Profiled, Smallest}
-use Rattle.dm_symbol.specs.SmallestContentSymbol.{IsSmallestContentWritten}
-use Rattle.dm_symbol.specs.SymbolBlocks.{AreCodewordsOf, first_data}
-use Rattle.dm_symbol.specs.WrittenContent.{AreChosen, IsWrittenAs}
-use Rattle.dm_symbol.specs.WrittenWords.{FitChoice}
 use Rattle.dm_symbol.proofs.SmallestContentSymbols.{laid_is_smallest_content, no_content_written}
 use Rattle.dm_symbol.proofs.SmallestContentSymbols.{smallest_content_written}
 use Rattle.dm_symbol.proofs.SymbolCompletions.{chosen_stands}

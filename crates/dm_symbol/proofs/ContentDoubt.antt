@@ -1,18 +1,9 @@
 -- Doubtful modules that are all light change nothing for contents.
-use Rattle.std.proofs.Common.{ℕ, ◌<◌, Some, None, Result, Ok, Err, ap, subst, ◌∙◌}
-use Rattle.dm_words.specs.declared.extent.Extent.{Extent}
-use Rattle.dm_words.specs.declared.profile.Profile.{Profile}
-use Rattle.dm_words.specs.Contents.{ContentView}
-use Rattle.dm_layout.specs.symbols.Symbols.{SymbolView}
-use Rattle.dm_symbol.specs.declared.contents.ContentReadFault.{ContentReadFault}
+use Rattle.dm_symbol.proofs.Names.{ℕ, ◌<◌, Some, None, Result, Ok, Err, ap, subst, ◌∙◌, Extent, Profile, ContentView}
+use Rattle.dm_symbol.proofs.Names.{SymbolView, ContentReadFault, ContentNormalFault, sure_fault_count, readings_by}
+use Rattle.dm_symbol.proofs.Names.{AreLight, ContentReadingView, ReadsContent, ContentReadResult, content_reading_of}
+use Rattle.dm_symbol.proofs.Names.{NormalContentResult, IsNormalOrFault}
 use Rattle.dm_symbol.specs.declared.contents.ContentReadFault.TheVariants as fault
-use Rattle.dm_symbol.specs.declared.contents.ContentNormalFault.{ContentNormalFault}
-use Rattle.dm_symbol.specs.Doubt.{sure_fault_count}
-use Rattle.dm_symbol.specs.SymbolReading.{readings_by}
-use Rattle.dm_symbol.specs.SymbolLaws.{AreLight}
-use Rattle.dm_symbol.specs.ContentReading.{ContentReadingView, ReadsContent, ContentReadResult, content_reading_of}
-use Rattle.dm_symbol.specs.ContentNormal.{NormalContentResult}
-use Rattle.dm_symbol.specs.NormalOutcomes.{IsNormalOrFault}
 use Rattle.dm_symbol.proofs.LightDoubt.{faults_alike, few_alike, lost_alike, restored_alike, said_alike}
 
 module _ (doubtful : SymbolView) (light : AreLight doubtful) (modules : SymbolView) (extent : Extent)

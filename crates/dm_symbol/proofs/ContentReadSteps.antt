@@ -1,26 +1,14 @@
 -- The results of reading a symbol of any size as a content, from the restored codewords; and what a
 -- result says.
-use Rattle.std.proofs.Common.{◌≡◌, ◌↔◌, ℕ, ◌<◌, List, Option, Result, Ok, Err, refl, sym, ap, subst, ◌∙◌}
-use Rattle.dm_words.specs.declared.extent.Extent.{Extent}
+use Rattle.dm_symbol.proofs.Names.{◌≡◌, ◌↔◌, ℕ, ◌<◌, List, Option, Result, Ok, Err, refl, sym, ap, subst, ◌∙◌, Extent}
+use Rattle.dm_symbol.proofs.Names.{ContentView, Says, IsRefused, SymbolView, WordsView, data_of, ContentReadFault}
+use Rattle.dm_symbol.proofs.Names.{BlockReading, Dealing, sure_fault_count, first_data, readings_by, ContentReadingView}
+use Rattle.dm_symbol.proofs.Names.{ContentReadResult, ReadsContent, IsIdentifier, content_reading_of, Border, Block}
+use Rattle.dm_symbol.proofs.Names.{IsRestored, IsLost}
 use Rattle.dm_words.specs.declared.contents.fault.ContentFault.{ContentFault}
-use Rattle.dm_words.specs.Contents.{ContentView}
-use Rattle.dm_words.specs.Contents.{Says, IsRefused}
-use Rattle.dm_layout.specs.symbols.Symbols.{SymbolView}
-use Rattle.dm_layout.specs.symbols.Words.{WordsView, data_of}
-use Rattle.dm_symbol.specs.declared.contents.ContentReadFault.{ContentReadFault}
 use Rattle.dm_symbol.specs.declared.contents.ContentReadFault.TheVariants as fault
-use Rattle.dm_symbol.specs.declared.symbol.reading.BlockReading.{BlockReading}
-use Rattle.dm_symbol.specs.declared.symbol.dealing.Dealing.{Dealing}
-use Rattle.dm_symbol.specs.Doubt.{sure_fault_count}
-use Rattle.dm_symbol.specs.SymbolBlocks.{first_data}
-use Rattle.dm_symbol.specs.SymbolReading.{readings_by}
-use Rattle.dm_symbol.specs.ContentReading.{ContentReadingView, ContentReadResult, IsContentRead, ReadsContent}
-use Rattle.dm_words.specs.Symbology.{IsIdentifier}
-use Rattle.dm_symbol.specs.ContentReading.{content_reading_of}
+use Rattle.dm_symbol.specs.ContentReading.{IsContentRead}
 use Rattle.dm_symbol.proofs.ContentReadings.{one_content_result, content_by_result, reads_content_by_result}
-use Rattle.dm_symbol.specs.declared.symbol.reading.Lost.TheVariants.{Border, Block}
-use Rattle.dm_symbol.specs.Restored.{IsRestored}
-use Rattle.dm_symbol.specs.inner.Restoring.{IsLost}
 use Rattle.dm_symbol.proofs.Restoring.{restored_data}
 
 -- Equal faults of the border have equal numbers of modules.

@@ -1,24 +1,14 @@
 -- A symbol of any size is read as at most one content, and has one result.
-use Rattle.std.proofs.Common.{◌≡◌, ◌⊎◌, ℕ, List, Option, Result, Ok, Err, inl, inr, refl, sym, ap, subst, ◌∙◌}
-use Rattle.std.proofs.Common.{arith}
-use Rattle.std.proofs.lemmas.Bool.{cases_lt}
-use Rattle.dm_words.specs.declared.extent.Extent.{Extent}
-use Rattle.dm_words.specs.declared.extent.Extent.TheVariants.{Usual, Wide}
-use Rattle.dm_words.specs.Contents.{ContentView, IsContent, Says, IsRefused}
-use Rattle.dm_words.specs.ContentExtents.{IsSaidIn}
-use Rattle.dm_words.specs.Symbology.{IsIdentifier}
-use Rattle.dm_words.proofs.Exported.{said_is_one, said_is_content, said_not_refused, one_content, refused_is_one}
-use Rattle.dm_words.proofs.Exported.{said_wide, usual_plain, identifier_is_one, identifier_is_there}
-use Rattle.dm_layout.specs.symbols.Symbols.{SymbolView, IsSymbol}
+use Rattle.dm_symbol.proofs.Names.{◌≡◌, ◌⊎◌, ℕ, List, Option, Result, Ok, Err, inl, inr, refl, sym, ap, subst, ◌∙◌}
+use Rattle.dm_symbol.proofs.Names.{arith, cases_lt, Extent, Usual, Wide, ContentView, IsContent, Says, IsRefused}
+use Rattle.dm_symbol.proofs.Names.{IsSaidIn, IsIdentifier, said_is_one, said_wide, usual_plain, identifier_is_there}
+use Rattle.dm_symbol.proofs.Names.{SymbolView, IsSymbol, ContentReadFault, Dealing, sure_fault_count, first_data}
+use Rattle.dm_symbol.proofs.Names.{AreRestored, readings_by, ContentReadingView, ReadsContent, ContentReadResult}
+use Rattle.dm_symbol.proofs.Names.{content_reading_of}
+use Rattle.dm_words.proofs.Exported.{said_is_content, said_not_refused, one_content, refused_is_one, identifier_is_one}
 use Rattle.dm_layout.proofs.symbols.Exported.{some_held}
-use Rattle.dm_symbol.specs.declared.contents.ContentReadFault.{ContentReadFault}
 use Rattle.dm_symbol.specs.declared.contents.ContentReadFault.TheVariants as fault
-use Rattle.dm_symbol.specs.declared.symbol.dealing.Dealing.{Dealing}
-use Rattle.dm_symbol.specs.Doubt.{sure_fault_count}
-use Rattle.dm_symbol.specs.SymbolBlocks.{first_data}
-use Rattle.dm_symbol.specs.SymbolReading.{AreRestored, readings_by}
-use Rattle.dm_symbol.specs.ContentReading.{ContentReadingView, ReadsContent, ContentReadResult, IsReadAsContent}
-use Rattle.dm_symbol.specs.ContentReading.{content_reading_of}
+use Rattle.dm_symbol.specs.ContentReading.{IsReadAsContent}
 use Rattle.dm_symbol.proofs.RestoredOrLost.{restored_or_lost}
 use Rattle.dm_symbol.proofs.Restoring.{held_by_modules}
 use Rattle.dm_symbol.proofs.SymbolReadings.{data_are_bytes, lost_is_one, none_lost, restored_is_one, restored_wide}

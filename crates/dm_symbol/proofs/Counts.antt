@@ -1,12 +1,10 @@
 -- Counts of the cells of a square.
-use Rattle.std.proofs.Common.{◌≡◌, ℕ, zero, suc, ◌+◌, ◌<◌, ◌≤◌, Bool, true, false, not, ◌&&◌, cond, eqb, List, get_or}
-use Rattle.std.proofs.Common.{inl, inr, refl, sym, subst, arith}
-use Rattle.std.specs.List.{range_with_len, sum_by, count_by}
-use Rattle.std.proofs.lemmas.List.Sums.{sum_by-cons}
-use Rattle.std.proofs.lemmas.Bool.{cases_Bool, cases_eq, cond-true, cond-false, eqb-true, eq-eqb, and_parts, and_from}
-use Rattle.std.proofs.lemmas.Bool.{and_right, not_from_false, not_from_true}
+use Rattle.dm_symbol.proofs.Names.{◌≡◌, ℕ, zero, suc, ◌+◌, ◌<◌, ◌≤◌, Bool, true, false, not, ◌&&◌, cond, eqb, List}
+use Rattle.dm_symbol.proofs.Names.{get_or, inl, inr, refl, sym, subst, arith, range_with_len, sum_by, count_by}
+use Rattle.dm_symbol.proofs.Names.{sum_by-cons, cases_Bool, cases_eq, eqb-true, eq-eqb, and_parts, and_from}
+use Rattle.dm_symbol.proofs.Names.{differs_same, differs_le}
+use Rattle.std.proofs.lemmas.Bool.{cond-true, cond-false, and_right, not_from_false, not_from_true}
 use Rattle.dm_code.specs.Codeword.{differing}
-use Rattle.dm_code.proofs.Exported.{differs_same, differs_le}
 use Rattle.dm_layout.proofs.Exported.{summands_zero}
 
 -- A sum of larger terms is larger.

@@ -1,26 +1,13 @@
 -- The two dealings of 144 x 144: what is dealt otherwise is turned, and what is near by a dealing is one.
-use Rattle.std.proofs.Common.{◌≡◌, ℕ, ◌+◌, ◌-◌, ◌*◌, ◌/◌, ◌%◌, ◌<◌, Bool, false, nat_eq, List, length}
-use Rattle.std.proofs.Common.{get_or, map, Option, Some, None, inl, inr, refl, sym, ap, subst, ◌∙◌, arith}
-use Rattle.std.proofs.lemmas.Bool.{cases_lt, cond_above, cond_below}
-use Rattle.std.proofs.lemmas.List.{ext_get_or, length-map}
-use Rattle.std.proofs.lemmas.List.FromFn.{get_or-map-range_with_len, length-map-range_with_len}
-use Rattle.dm_words.specs.declared.extent.Extent.{Extent}
-use Rattle.dm_words.specs.declared.extent.Extent.TheVariants.{Usual, Wide}
-use Rattle.dm_code.specs.Erased.{erased_places}
-use Rattle.dm_code.proofs.Exported.{erased_within}
-use Rattle.dm_layout.specs.symbols.Sizes.{SizeEntry, IsSize, size_table, entry_of, entry_with, codeword_count}
-use Rattle.dm_layout.specs.symbols.Sizes.{block_length}
-use Rattle.dm_layout.specs.symbols.Symbols.{SymbolView}
-use Rattle.dm_layout.specs.symbols.Words.{WordsView}
-use Rattle.dm_layout.specs.symbols.Blocks.{places_of_block}
-use Rattle.dm_layout.specs.symbols.Holding.{Holds}
-use Rattle.dm_symbol.specs.declared.symbol.dealing.Dealing.{Dealing}
-use Rattle.dm_symbol.specs.declared.symbol.dealing.Dealing.TheVariants.{Standard, Restarted}
-use Rattle.dm_symbol.specs.Doubt.{is_erased}
-use Rattle.dm_symbol.specs.Dealings.{IsDealtTwoWays, restarted_place, dealt, erased_by}
-use Rattle.dm_symbol.specs.SymbolBlocks.{AreOfSize}
-use Rattle.dm_symbol.specs.inner.Marks.{is_mark, marked_in}
-use Rattle.dm_symbol.specs.inner.Turns.{turned, turned_place}
+use Rattle.dm_symbol.proofs.Names.{◌≡◌, ℕ, ◌+◌, ◌-◌, ◌*◌, ◌/◌, ◌%◌, ◌<◌, Bool, false, nat_eq, List, length, get_or, map}
+use Rattle.dm_symbol.proofs.Names.{Option, Some, None, inl, inr, refl, sym, ap, subst, ◌∙◌, arith, cases_lt, cond_above}
+use Rattle.dm_symbol.proofs.Names.{cond_below, ext_get_or, length-map, get_or-map-range_with_len}
+use Rattle.dm_symbol.proofs.Names.{length-map-range_with_len, Extent, Usual, Wide, erased_places, erased_within}
+use Rattle.dm_symbol.proofs.Names.{SizeEntry, IsSize, entry_of, codeword_count, block_length, SymbolView, WordsView}
+use Rattle.dm_symbol.proofs.Names.{places_of_block, Holds, Dealing, Standard, Restarted, is_erased, IsDealtTwoWays}
+use Rattle.dm_symbol.proofs.Names.{restarted_place, dealt, erased_by, AreOfSize, is_mark, marked_in, turned}
+use Rattle.dm_symbol.proofs.Names.{turned_place}
+use Rattle.dm_layout.specs.symbols.Sizes.{size_table, entry_with}
 use Rattle.dm_symbol.proofs.SymbolDoubt.{erased_by_held, erased_by_none, erased_inside, erased_nowhere}
 use Rattle.dm_symbol.proofs.SymbolDoubt.{erased_where_marked, map_twice, places_count, same_filtered}
 use Rattle.dm_symbol.proofs.Turns.{at_turned, inside_1558, length-turned, place_of, turned_again, turned_back}

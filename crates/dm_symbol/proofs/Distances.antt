@@ -1,10 +1,9 @@
 -- At how many places words differ that agree at some places or at all.
-use Rattle.std.proofs.Common.{◌≡◌, ◌≢◌, ℕ, zero, suc, ◌-◌, ◌*◌, ◌<◌, ◌≤◌, List, get_or, length, Result, Ok, Err, refl}
-use Rattle.std.proofs.Common.{sym, subst, ◌∙◌, inl, inr, arith}
-use Rattle.std.specs.Prelude.{IfOk, MatchResult}
-use Rattle.std.proofs.lemmas.Bool.{cases_eq, cases_lt}
-use Rattle.dm_code.specs.Codeword.{IsCodeword, IsNear, differing, distance}
-use Rattle.dm_code.proofs.Exported.{differs_same, differs_le}
+use Rattle.dm_symbol.proofs.Names.{◌≡◌, ◌≢◌, ℕ, zero, suc, ◌-◌, ◌*◌, ◌<◌, ◌≤◌, List, get_or, length, Result, Ok, Err}
+use Rattle.dm_symbol.proofs.Names.{refl, sym, subst, ◌∙◌, inl, inr, arith, IfOk, cases_eq, cases_lt, IsCodeword, IsNear}
+use Rattle.dm_symbol.proofs.Names.{distance, differs_same, differs_le}
+use Rattle.std.specs.Prelude.{MatchResult}
+use Rattle.dm_code.specs.Codeword.{differing}
 
 -- Words that agree at the first m places differ in at most as many of the first n places as come after those.
 pub differing_prefix : (w c : List ℕ) (m n : ℕ) → ((i : ℕ) → i < m → get_or w i 0 ≡ get_or c i 0)

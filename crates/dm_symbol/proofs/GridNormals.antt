@@ -1,43 +1,22 @@
 -- Normal grids are the grids of normal symbols, and what follows for normalising.
-use Rattle.std.proofs.Common.{◌≡◌, ◌⊎◌, ◌↔◌, ℕ, zero, suc, List, ◌∷◌, length, map, replicate, Option, Some, None}
-use Rattle.std.proofs.Common.{IsSome}
-use Rattle.std.proofs.Common.{Result, Ok, Err, IsErr, ◌<◌, inl, inr, refl, sym, ap, subst, ◌∙◌, arith}
-use Rattle.std.proofs.lemmas.Bool.{false≢true}
-use Rattle.dm_words.specs.declared.extent.Extent.TheVariants.{Usual}
-use Rattle.dm_words.specs.declared.item.Item.{Item}
-use Rattle.dm_words.specs.declared.fault.TooLong.{TooLong}
-use Rattle.dm_words.specs.declared.profile.Profile.{Profile}
-use Rattle.dm_words.specs.ContentExtents.{as_content}
-use Rattle.dm_words.specs.ContentForm.{content_form}
-use Rattle.dm_words.specs.Messages.{IsMessage}
-use Rattle.dm_words.specs.Pads.{padded}
-use Rattle.dm_words.proofs.Exported.{identifier_is_there, said_wide}
-use Rattle.dm_words.specs.NormalForm.{normal_form}
-use Rattle.dm_layout.specs.declared.symbols.size.SizeChoice.TheVariants.{Square}
-use Rattle.dm_layout.specs.symbols.Sizes.{SizeEntry, block_check}
-use Rattle.dm_layout.specs.symbols.Symbols.{SymbolView, IsSymbol}
-use Rattle.dm_layout.specs.Sizes.{SizeRow, row_for_words, symbol_size, most_grid_data}
-use Rattle.dm_layout.proofs.Exported.{row_facts}
-use Rattle.dm_layout.specs.Grid.{GridView, IsGrid, symbol_modules}
-use Rattle.dm_symbol.specs.declared.reading.Reading.{Reading}
-use Rattle.dm_symbol.specs.declared.reading.ReadFault.{ReadFault}
+use Rattle.dm_symbol.proofs.Names.{◌≡◌, ◌⊎◌, ◌↔◌, ℕ, zero, suc, List, ◌∷◌, length, map, replicate, Option, Some, None}
+use Rattle.dm_symbol.proofs.Names.{IsSome, Result, Ok, Err, IsErr, ◌<◌, inl, inr, refl, sym, ap, subst, ◌∙◌, arith}
+use Rattle.dm_symbol.proofs.Names.{false≢true, Usual, Item, TooLong, Profile, as_content, content_form, IsMessage}
+use Rattle.dm_symbol.proofs.Names.{padded, identifier_is_there, said_wide, normal_form, Square, SizeEntry, block_check}
+use Rattle.dm_symbol.proofs.Names.{SymbolView, IsSymbol, SizeRow, row_for_words, symbol_size, most_grid_data, row_facts}
+use Rattle.dm_symbol.proofs.Names.{GridView, IsGrid, symbol_modules, Reading, ReadFault, BlockReading, IsNormalGrid}
+use Rattle.dm_symbol.proofs.Names.{IsNormalOfContent, Reads, ReadResult, reading_of, IsNormalOrFault, nothing_wrong}
 use Rattle.dm_symbol.specs.declared.normalising.NormalFault.{NormalFault}
 use Rattle.dm_symbol.specs.declared.normalising.NormalFault.TheVariants as fault
-use Rattle.dm_symbol.specs.declared.symbol.reading.BlockReading.{BlockReading}
-use Rattle.dm_symbol.specs.NormalGrid.{IsNormalGrid, FitsSomeSize, IsWritten}
-use Rattle.dm_symbol.specs.NormalContent.{IsNormalOfContent}
-use Rattle.dm_symbol.specs.Reading.{Reads, ReadResult, reading_of}
-use Rattle.dm_symbol.specs.NormalOutcomes.{IsNormalOrFault}
+use Rattle.dm_symbol.specs.NormalGrid.{FitsSomeSize, IsWritten}
 use Rattle.dm_symbol.specs.Normal.{HasNormal, HasNoNormal, NormalResult, IsNormalised}
-use Rattle.dm_symbol.specs.SymbolLaws.{nothing_wrong}
-use Rattle.dm_symbol.proofs.Grids.{no_fault, one_given, one_message, read_is_message, read_result_is_there}
-use Rattle.dm_symbol.proofs.Grids.{items_are, reads_by_result, same_grid}
+use Rattle.dm_symbol.proofs.Grids.{no_fault, one_given, one_message, read_is_message, read_result_is_there, items_are}
+use Rattle.dm_symbol.proofs.Grids.{reads_by_result, same_grid}
 use Rattle.dm_symbol.proofs.NormalOutcomes.{AreApart, one_normalised, is_normal_given}
 use Rattle.dm_symbol.proofs.SquareSizes.{row_for_these, row_holds, same_smallest, some_smallest}
 use Rattle.dm_symbol.proofs.PlainSymbols.{message_is_content}
 use Rattle.dm_symbol.proofs.WrittenContents.{clean_reading, form_says, written_content_is_read}
-use Rattle.dm_symbol.proofs.WrittenContents.{written_content_is_there}
-use Rattle.dm_symbol.proofs.WrittenContents.{written_contents_tell, written_reads_content}
+use Rattle.dm_symbol.proofs.WrittenContents.{written_content_is_there, written_contents_tell, written_reads_content}
 use Rattle.dm_symbol.proofs.WrittenWords.{some_is, words_written_once}
 
 -- ---- normal grids

@@ -1,23 +1,12 @@
 -- The results of reading a grid, from the restored codewords of its symbol.
-use Rattle.std.proofs.Common.{ℕ, List, map, None, Ok, Err, refl}
-use Rattle.dm_words.specs.declared.extent.Extent.TheVariants.{Usual}
-use Rattle.dm_words.specs.declared.item.Item.{Item}
+use Rattle.dm_symbol.proofs.Names.{ℕ, List, map, None, Ok, Err, refl, Usual, Item, as_content, Spells, Refused}
+use Rattle.dm_symbol.proofs.Names.{identifier_is_there, said_wide, GridView, IsGrid, symbol_modules, WordsView, data_of}
+use Rattle.dm_symbol.proofs.Names.{Dealing, BlockReading, Border, Block, content_reading_of, IsRead, reading_of}
+use Rattle.dm_symbol.proofs.Names.{IsRestored, IsLost}
 use Rattle.dm_words.specs.declared.fault.WordFault.{WordFault}
 use Rattle.dm_words.specs.declared.contents.fault.ContentFault.TheVariants as words_fault
-use Rattle.dm_words.specs.ContentExtents.{as_content}
-use Rattle.dm_words.specs.Spells.{Spells, Refused}
-use Rattle.dm_words.proofs.Exported.{identifier_is_there, said_wide}
-use Rattle.dm_layout.specs.Grid.{GridView, IsGrid, symbol_modules}
-use Rattle.dm_layout.specs.symbols.Words.{WordsView, data_of}
-use Rattle.dm_symbol.specs.declared.symbol.dealing.Dealing.{Dealing}
-use Rattle.dm_symbol.specs.declared.symbol.reading.BlockReading.{BlockReading}
-use Rattle.dm_symbol.specs.declared.symbol.reading.Lost.TheVariants.{Border, Block}
 use Rattle.dm_symbol.specs.declared.contents.ContentReadFault.TheVariants as content
 use Rattle.dm_symbol.specs.declared.reading.ReadFault.TheVariants as fault
-use Rattle.dm_symbol.specs.ContentReading.{content_reading_of}
-use Rattle.dm_symbol.specs.Reading.{IsRead, reading_of}
-use Rattle.dm_symbol.specs.Restored.{IsRestored}
-use Rattle.dm_symbol.specs.inner.Restoring.{IsLost}
 use Rattle.dm_symbol.proofs.Grids.{is_read}
 use Rattle.dm_symbol.proofs.ContentReadSteps.{content_border_result, content_lost_result, refused_content_result}
 use Rattle.dm_symbol.proofs.ContentReadSteps.{said_content_result}

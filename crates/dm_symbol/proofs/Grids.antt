@@ -1,35 +1,20 @@
 -- Grids are read as their symbols are in the usual extent, with no module doubtful.
-use Rattle.std.proofs.Common.{◌≡◌, ◌↔◌, ℕ, ◌+◌, ◌-◌, ◌*◌, ◌<◌, ◌≤◌, Bool, List, [], ◌∷◌, length, map, Option, None}
-use Rattle.std.proofs.Common.{Result, Ok, Err, refl, sym, ap, subst, ◌∙◌, arith}
-use Rattle.std.specs.List.{range_with_len}
-use Rattle.std.proofs.lemmas.List.{length-take}
-use Rattle.dm_words.specs.declared.extent.Extent.TheVariants.{Usual}
-use Rattle.dm_words.specs.declared.item.Item.{Item}
+use Rattle.dm_symbol.proofs.Names.{◌≡◌, ◌↔◌, ℕ, ◌+◌, ◌-◌, ◌*◌, ◌<◌, ◌≤◌, Bool, List, [], ◌∷◌, length, map, Option, None}
+use Rattle.dm_symbol.proofs.Names.{Result, Ok, Err, refl, sym, ap, subst, ◌∙◌, arith, range_with_len, length-take}
+use Rattle.dm_symbol.proofs.Names.{Usual, Item, ContentView, as_content, IsMessage, usual_plain, SizeRow}
+use Rattle.dm_symbol.proofs.Names.{most_grid_data, symbol_size, GridView, IsGrid, symbol_modules, border_fault_count}
+use Rattle.dm_symbol.proofs.Names.{SizeEntry, block_check, SymbolView, row_facts, same_row, Reading, ReadFault}
+use Rattle.dm_symbol.proofs.Names.{ContentReadFault, Standard, Restarted, BlockReading, erased_in, sure_fault_count}
+use Rattle.dm_symbol.proofs.Names.{IsDealtTwoWays, Reads, ReadResult, IsRead, reading_of, block_in, first_data}
+use Rattle.dm_symbol.proofs.Names.{block_reading, ContentReadingView, ReadsContent, ContentReadResult}
+use Rattle.dm_symbol.proofs.Names.{content_reading_of}
 use Rattle.dm_words.specs.declared.contents.fault.ContentFault.TheVariants as words_fault
-use Rattle.dm_words.specs.Contents.{ContentView}
-use Rattle.dm_words.specs.ContentExtents.{as_content}
-use Rattle.dm_words.specs.Messages.{IsMessage}
-use Rattle.dm_words.proofs.Exported.{spelled_is_few, usual_plain, usual_word}
-use Rattle.dm_layout.specs.Sizes.{SizeRow, most_grid_data, symbol_size}
-use Rattle.dm_layout.specs.Grid.{GridView, IsGrid, symbol_modules}
-use Rattle.dm_layout.specs.Border.{border_fault_count}
-use Rattle.dm_layout.specs.symbols.Sizes.{SizeEntry, block_check}
-use Rattle.dm_layout.specs.symbols.Symbols.{SymbolView}
-use Rattle.dm_layout.proofs.Exported.{is_modules, is_size, row_facts, same_row, side_fits}
+use Rattle.dm_words.proofs.Exported.{spelled_is_few, usual_word}
+use Rattle.dm_layout.proofs.Exported.{is_modules, is_size, side_fits}
 use Rattle.dm_layout.proofs.symbols.Exported.{same_size}
-use Rattle.dm_symbol.specs.declared.reading.Reading.{Reading}
-use Rattle.dm_symbol.specs.declared.reading.ReadFault.{ReadFault}
 use Rattle.dm_symbol.specs.declared.reading.ReadFault.TheVariants as fault
-use Rattle.dm_symbol.specs.declared.contents.ContentReadFault.{ContentReadFault}
 use Rattle.dm_symbol.specs.declared.contents.ContentReadFault.TheVariants as content
-use Rattle.dm_symbol.specs.declared.symbol.dealing.Dealing.TheVariants.{Standard, Restarted}
-use Rattle.dm_symbol.specs.declared.symbol.reading.BlockReading.{BlockReading}
-use Rattle.dm_symbol.specs.Doubt.{erased_in, sure_fault_count}
-use Rattle.dm_symbol.specs.Dealings.{IsDealtTwoWays}
-use Rattle.dm_symbol.specs.Reading.{Reads, ReadResult, IsGridResult, IsRead, IsReadAs, content_fault, reading_of}
-use Rattle.dm_symbol.specs.SymbolBlocks.{block_in, first_data}
-use Rattle.dm_symbol.specs.SymbolReading.{block_reading}
-use Rattle.dm_symbol.specs.ContentReading.{ContentReadingView, ReadsContent, ContentReadResult, content_reading_of}
+use Rattle.dm_symbol.specs.Reading.{IsGridResult, IsReadAs, content_fault}
 use Rattle.dm_symbol.specs.SymbolLaws.{AreModulesOf, HasResultOfGrid, none_erased}
 use Rattle.dm_symbol.proofs.ContentReadings.{one_content_result, one_symbol_content, read_content_right}
 use Rattle.dm_symbol.proofs.ContentReadings.{content_no_fault, reads_content_by_result, some_content_result}

@@ -1,3 +1,4 @@
+mod Names
 mod Below
 mod Distances
 mod Counts

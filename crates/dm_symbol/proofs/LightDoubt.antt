@@ -1,26 +1,14 @@
 -- Doubtful modules that are all light change nothing.
-use Rattle.std.proofs.Common.{◌≡◌, ℕ, zero, suc, ◌+◌, ◌*◌, ◌<◌, ◌≤◌, Bool, false, not, cond, ◌&&◌, List, [], ◌∷◌}
-use Rattle.std.proofs.Common.{length, get_or, map, Option, Some, None, refl, sym, ap, subst, ◌∙◌}
-use Rattle.std.proofs.Common.{arith}
-use Rattle.std.specs.Prelude.{sum_by, count_by}
-use Rattle.std.specs.List.{range_with_len}
-use Rattle.std.proofs.lemmas.List.Sums.{sum_by-cons}
+use Rattle.dm_symbol.proofs.Names.{◌≡◌, ℕ, zero, suc, ◌+◌, ◌*◌, ◌<◌, ◌≤◌, Bool, false, not, cond, ◌&&◌, List, [], ◌∷◌}
+use Rattle.dm_symbol.proofs.Names.{length, get_or, map, Option, Some, None, refl, sym, ap, subst, ◌∙◌, arith, sum_by}
+use Rattle.dm_symbol.proofs.Names.{count_by, range_with_len, sum_by-cons, place, Extent, Wide, SizeEntry, mapping_rows}
+use Rattle.dm_symbol.proofs.Names.{mapping_columns, codeword_count, SymbolView, is_fault, places_of_block, Dealing}
+use Rattle.dm_symbol.proofs.Names.{Standard, Restarted, SymbolInspectionIn, is_doubtful_bit, is_erased, erased_in}
+use Rattle.dm_symbol.proofs.Names.{is_sure_fault, sure_fault_count, dealt, erased_by, restarted_place, IsTried}
+use Rattle.dm_symbol.proofs.Names.{AreRestored, AreLost, IsFirstLost, readings_by, IsSymbolInspection, AreLight}
 use Rattle.dm_place.specs.Border.{symbol_line}
-use Rattle.dm_place.specs.Placement.{place}
-use Rattle.dm_words.specs.declared.extent.Extent.{Extent}
-use Rattle.dm_words.specs.declared.extent.Extent.TheVariants.{Wide}
-use Rattle.dm_layout.specs.symbols.Sizes.{SizeEntry, mapping_rows, mapping_columns, codeword_count}
-use Rattle.dm_layout.specs.symbols.Symbols.{SymbolView, rows_of}
-use Rattle.dm_layout.specs.symbols.Border.{is_fault}
-use Rattle.dm_layout.specs.symbols.Blocks.{places_of_block}
-use Rattle.dm_symbol.specs.declared.symbol.dealing.Dealing.{Dealing}
-use Rattle.dm_symbol.specs.declared.symbol.dealing.Dealing.TheVariants.{Standard, Restarted}
-use Rattle.dm_symbol.specs.declared.symbol.inspection.SymbolInspectionIn.{SymbolInspectionIn}
-use Rattle.dm_symbol.specs.Doubt.{is_doubtful, is_doubtful_bit, is_erased, erased_in, is_sure_fault, sure_fault_count}
-use Rattle.dm_symbol.specs.Dealings.{dealt, erased_by, restarted_place}
-use Rattle.dm_symbol.specs.SymbolReading.{IsTried, AreRestored, AreLost, IsFirstLost, readings_by}
-use Rattle.dm_symbol.specs.SymbolInspection.{IsSymbolInspection}
-use Rattle.dm_symbol.specs.SymbolLaws.{AreLight}
+use Rattle.dm_layout.specs.symbols.Symbols.{rows_of}
+use Rattle.dm_symbol.specs.Doubt.{is_doubtful}
 use Rattle.dm_symbol.proofs.SymbolDoubt.{erased_nowhere, same_any}
 use Rattle.dm_symbol.proofs.Dealings.{erased_by_nothing}
 use Rattle.dm_symbol.proofs.SymbolSteps.{near_moves, lost_moves, mended_moves, readings_move}

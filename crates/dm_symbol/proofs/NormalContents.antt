@@ -1,31 +1,18 @@
 -- The normal symbols of the contents that symbols are read as.
-use Rattle.std.proofs.Common.{◌≡◌, ◌↔◌, ℕ, List, length, Option, None, Result, Ok, Err, inl, inr, refl, sym, subst}
-use Rattle.dm_words.specs.declared.extent.Extent.{Extent}
-use Rattle.dm_words.specs.declared.extent.Extent.TheVariants.{Wide}
-use Rattle.dm_words.specs.declared.item.Item.{Item}
-use Rattle.dm_words.specs.declared.profile.Profile.{Profile}
-use Rattle.dm_words.specs.Contents.{ContentView}
-use Rattle.dm_words.specs.ContentExtents.{as_content, IsSaidIn}
+use Rattle.dm_symbol.proofs.Names.{◌≡◌, ◌↔◌, ℕ, List, length, Option, None, Result, Ok, Err, inl, inr, refl, sym, subst}
+use Rattle.dm_symbol.proofs.Names.{Extent, Wide, Item, Profile, ContentView, as_content, IsSaidIn, content_form, Square}
+use Rattle.dm_symbol.proofs.Names.{entry_for, SymbolView, IsSymbol, ContentReadFault, ContentNormalFault, first_data}
+use Rattle.dm_symbol.proofs.Names.{ContentReadingView, ReadsContent, ContentReadResult, IsNormalOfContent}
+use Rattle.dm_symbol.proofs.Names.{NormalContentResult, IsNormalGiven, IsNormalOrFault}
 use Rattle.dm_words.specs.Macros.{macro_text}
 use Rattle.dm_words.proofs.Exported.{macro_short}
-use Rattle.dm_words.specs.ContentForm.{content_form}
-use Rattle.dm_layout.specs.declared.symbols.size.SizeChoice.TheVariants.{Square}
-use Rattle.dm_layout.specs.symbols.Sizes.{entry_for}
-use Rattle.dm_layout.specs.symbols.Symbols.{SymbolView, IsSymbol}
-use Rattle.dm_symbol.specs.declared.contents.ContentReadFault.{ContentReadFault}
-use Rattle.dm_symbol.specs.declared.contents.ContentNormalFault.{ContentNormalFault}
 use Rattle.dm_symbol.specs.declared.contents.ContentNormalFault.TheVariants.{Read, TooLong}
-use Rattle.dm_symbol.specs.SymbolBlocks.{first_data}
 use Rattle.dm_symbol.specs.ContentLaws.{ReadsMacro}
-use Rattle.dm_symbol.specs.ContentReading.{ContentReadingView, ReadsContent, ContentReadResult}
-use Rattle.dm_symbol.specs.NormalContent.{IsNormalOfContent}
-use Rattle.dm_symbol.specs.ContentNormal.{HasNormalContent, HasNoNormalContent, NormalContentResult}
-use Rattle.dm_symbol.specs.NormalOutcomes.{IsNormalGiven, IsNormalOrFault}
+use Rattle.dm_symbol.specs.ContentNormal.{HasNormalContent, HasNoNormalContent}
 use Rattle.dm_symbol.proofs.NormalOutcomes.{AreApart, one_normalised, is_normal_given}
 use Rattle.dm_symbol.proofs.GridNormals.{fits_or_not}
 use Rattle.dm_symbol.proofs.ContentReadings.{one_symbol_content, read_content_right, one_content_result}
-use Rattle.dm_symbol.proofs.ContentReadings.{some_content_result}
-use Rattle.dm_symbol.proofs.ContentReadings.{content_or_fault, content_no_fault}
+use Rattle.dm_symbol.proofs.ContentReadings.{some_content_result, content_or_fault, content_no_fault}
 use Rattle.dm_symbol.proofs.WrittenContents.{written_content_is_there, written_reads_content}
 use Rattle.dm_symbol.proofs.WrittenContents.{written_symbols_tell_contents}
 use Rattle.dm_symbol.proofs.WrittenWords.{words_written_once, written_fit}

@@ -1,7 +1,6 @@
 -- There is one result of normalising, and each kind of result is given exactly where its condition holds, for grids as
 -- for symbols of any size.
-use Rattle.std.proofs.Common.{◌≡◌, Result, Ok, Err, refl, sym, ap, subst, ◌∙◌}
-use Rattle.dm_symbol.specs.NormalOutcomes.{IsNormalOrFault, IsNormalGiven}
+use Rattle.dm_symbol.proofs.Names.{◌≡◌, Result, Ok, Err, refl, sym, ap, subst, ◌∙◌, IsNormalOrFault, IsNormalGiven}
 
 -- The conditions exclude each other, and hold of one thing each; and the faults tell which they are.
 pub record AreApart {N F E : Type 0} (read : F → E) (long : E) (has : N → Type 0) (has_none : Type 0)

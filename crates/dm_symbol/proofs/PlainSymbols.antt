@@ -1,25 +1,11 @@
 -- Symbols that are written are plain.
-use Rattle.std.proofs.Common.{◌≤◌, List, length, sym, subst, arith, Result, Ok, Err}
-use Rattle.std.specs.Prelude.{IfOk}
-use Rattle.dm_layout.specs.declared.symbols.size.SizeChoice.{SizeChoice}
-use Rattle.dm_layout.specs.symbols.Symbols.{SymbolView}
-use Rattle.dm_layout.proofs.symbols.Exported.{size_facts}
-use Rattle.dm_words.specs.declared.fault.TooLong.{TooLong}
-use Rattle.dm_words.specs.declared.extent.Extent.{Extent}
-use Rattle.dm_words.specs.declared.item.Item.{Item}
-use Rattle.dm_words.specs.declared.profile.Profile.{Profile}
-use Rattle.dm_words.specs.ContentExtents.{as_content}
-use Rattle.dm_words.specs.ContentForm.{content_form}
-use Rattle.dm_words.specs.Contents.{ContentView, IsContent}
-use Rattle.dm_words.specs.Messages.{IsMessage}
+use Rattle.dm_symbol.proofs.Names.{◌≤◌, List, length, sym, subst, arith, Result, Ok, Err, IfOk, SizeChoice, SymbolView}
+use Rattle.dm_symbol.proofs.Names.{size_facts, TooLong, Extent, Item, Profile, as_content, content_form, ContentView}
+use Rattle.dm_symbol.proofs.Names.{IsContent, IsMessage, IsContentWritten, IsContentWrittenIn, IsSmallestContentWritten}
+use Rattle.dm_symbol.proofs.Names.{IsWrittenAs, Form, Profiled, Smallest}
 use Rattle.dm_words.specs.Plain.{IsPlainForm}
 use Rattle.dm_words.proofs.Exported.{content_form_plain}
 use Rattle.dm_symbol.specs.PlainSymbol.{IsPlainSymbol}
-use Rattle.dm_symbol.specs.NormalContent.{IsContentWritten, IsContentWrittenIn}
-use Rattle.dm_symbol.specs.SmallestContentSymbol.{IsSmallestContentWritten}
-use Rattle.dm_symbol.specs.WrittenContent.{IsWrittenAs}
-use Rattle.dm_symbol.specs.declared.contents.writing.Form.{Form}
-use Rattle.dm_symbol.specs.declared.contents.writing.Form.TheVariants.{Profiled, Smallest}
 use Rattle.dm_symbol.proofs.SymbolCompletions.{chosen_stands}
 use Rattle.dm_symbol.proofs.SymbolWriteSteps.{chosen_holds}
 

@@ -1,28 +1,13 @@
 -- What the other dealing restores, and what is shown of it.
-use Rattle.std.proofs.Common.{◌≡◌, ℕ, ◌<◌, List, length, get_or, map, Option, Some, None, inl, inr, refl, sym}
-use Rattle.std.proofs.Common.{ap, subst, ◌∙◌, arith}
-use Rattle.std.specs.Prelude.{IsSome}
-use Rattle.std.specs.List.{range_with_len}
-use Rattle.std.proofs.lemmas.Bool.{false≢true}
-use Rattle.std.proofs.lemmas.List.{get_or-map, length-map}
-use Rattle.std.proofs.lemmas.List.FromFn.{get_or-map-range_with_len}
-use Rattle.dm_words.specs.declared.extent.Extent.TheVariants.{Wide}
-use Rattle.dm_layout.specs.symbols.Sizes.{block_check}
-use Rattle.dm_layout.specs.symbols.Symbols.{SymbolView}
-use Rattle.dm_layout.specs.symbols.Words.{WordsView}
-use Rattle.dm_layout.specs.symbols.Holding.{Holds}
-use Rattle.dm_symbol.specs.declared.symbol.dealing.Dealing.TheVariants.{Standard, Restarted}
-use Rattle.dm_symbol.specs.declared.symbol.reading.BlockReading.{BlockReading}
-use Rattle.dm_symbol.specs.declared.symbol.inspection.SymbolInspectionIn.{SymbolInspectionIn}
-use Rattle.dm_symbol.specs.Doubt.{sure_fault_count, erased_in}
-use Rattle.dm_symbol.specs.Dealings.{IsDealtTwoWays, dealt, erased_by}
-use Rattle.dm_symbol.specs.SymbolBlocks.{AreOfSize, AreHeldBy, AreBlocksNear, HasNearBut, block_in}
-use Rattle.dm_symbol.specs.SymbolReading.{AreRestoredBy, AreRestored, IsFirstLost, IsBlockRestored, AreBlocksMended}
-use Rattle.dm_symbol.specs.SymbolReading.{block_reading, block_readings}
-use Rattle.dm_symbol.specs.SymbolInspection.{IsSymbolInspection}
-use Rattle.dm_symbol.specs.inner.Restoring.{IsRestarted}
-use Rattle.dm_symbol.specs.inner.Showing.{IsRestartShown}
-use Rattle.dm_symbol.specs.inner.Turns.{turned}
+use Rattle.dm_symbol.proofs.Names.{◌≡◌, ℕ, ◌<◌, List, length, get_or, map, Option, Some, None, inl, inr, refl, sym, ap}
+use Rattle.dm_symbol.proofs.Names.{subst, ◌∙◌, arith, IsSome, range_with_len, false≢true, length-map}
+use Rattle.dm_symbol.proofs.Names.{get_or-map-range_with_len, Wide, block_check, SymbolView, WordsView, Holds, Standard}
+use Rattle.dm_symbol.proofs.Names.{Restarted, BlockReading, SymbolInspectionIn, sure_fault_count, erased_in}
+use Rattle.dm_symbol.proofs.Names.{IsDealtTwoWays, dealt, erased_by, AreOfSize, AreHeldBy, AreBlocksNear, HasNearBut}
+use Rattle.dm_symbol.proofs.Names.{block_in, AreRestoredBy, AreRestored, IsFirstLost, IsBlockRestored, AreBlocksMended}
+use Rattle.dm_symbol.proofs.Names.{block_reading, block_readings, IsSymbolInspection, IsRestarted, IsRestartShown}
+use Rattle.dm_symbol.proofs.Names.{turned}
+use Rattle.std.proofs.lemmas.List.{get_or-map}
 use Rattle.dm_symbol.proofs.Dealings.{dealt_back, dealt_is_turned, not_restarted, turned_of_size}
 use Rattle.dm_symbol.proofs.SymbolBelow.{held_is_one}
 use Rattle.dm_symbol.proofs.RestoredOrLost.{near_or_first_lost}

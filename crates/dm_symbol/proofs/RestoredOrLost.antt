@@ -1,20 +1,10 @@
 -- The words that a symbol of any size holds are restored, or a first block of them is lost.
-use Rattle.std.proofs.Common.{◌≡◌, ◌⊎◌, ℕ, zero, suc, ◌<◌, ◌≤◌, List, Option, inl, inr, refl, sym}
-use Rattle.std.proofs.Common.{ap, subst, ◌∙◌, arith}
-use Rattle.std.proofs.lemmas.Bool.{cases_eq}
-use Rattle.dm_words.specs.declared.extent.Extent.{Extent}
-use Rattle.dm_words.specs.declared.extent.Extent.TheVariants.{Usual, Wide}
-use Rattle.dm_code.specs.Erased.{IsNearBut}
+use Rattle.dm_symbol.proofs.Names.{◌≡◌, ◌⊎◌, ℕ, zero, suc, ◌<◌, ◌≤◌, List, Option, inl, inr, refl, sym, ap, subst, ◌∙◌}
+use Rattle.dm_symbol.proofs.Names.{arith, cases_eq, Extent, Usual, Wide, IsNearBut, SizeEntry, block_check, SymbolView}
+use Rattle.dm_symbol.proofs.Names.{blocks_make_words, Dealing, Standard, Restarted, erased_in, IsDealtTwoWays, dealt}
+use Rattle.dm_symbol.proofs.Names.{erased_by, AreOfSize, AreHeldBy, HasNearBut, block_in, AreRestoredBy, AreRestored}
+use Rattle.dm_symbol.proofs.Names.{AreLost, IsFirstLost}
 use Rattle.dm_code.proofs.Exported.{near_but_or_none}
-use Rattle.dm_layout.specs.symbols.Sizes.{SizeEntry, block_check}
-use Rattle.dm_layout.specs.symbols.Symbols.{SymbolView}
-use Rattle.dm_layout.proofs.symbols.Exported.{blocks_make_words}
-use Rattle.dm_symbol.specs.declared.symbol.dealing.Dealing.{Dealing}
-use Rattle.dm_symbol.specs.declared.symbol.dealing.Dealing.TheVariants.{Standard, Restarted}
-use Rattle.dm_symbol.specs.Doubt.{erased_in}
-use Rattle.dm_symbol.specs.Dealings.{IsDealtTwoWays, dealt, erased_by}
-use Rattle.dm_symbol.specs.SymbolBlocks.{AreOfSize, AreHeldBy, HasNearBut, block_in}
-use Rattle.dm_symbol.specs.SymbolReading.{AreRestoredBy, AreRestored, AreLost, IsFirstLost}
 use Rattle.dm_symbol.proofs.Below.{codewords_are_bytes}
 use Rattle.dm_symbol.proofs.Choosing.{chosen}
 use Rattle.dm_symbol.proofs.SymbolBelow.{block_lengths, block_facts}

@@ -1,24 +1,10 @@
 -- The codewords of a symbol of any size, from what was lifted and restored.
-use Rattle.std.proofs.Common.{◌≡◌, ℕ, ◌≤◌, List, length, Option, ap, subst, ◌∙◌}
-use Rattle.std.specs.List.{range_with_len}
-use Rattle.std.proofs.lemmas.List.{length-map}
-use Rattle.std.proofs.lemmas.List.FromFn.{length-range_with_len}
-use Rattle.dm_words.specs.declared.extent.Extent.{Extent}
-use Rattle.dm_words.specs.declared.extent.Extent.TheVariants.{Wide}
-use Rattle.dm_layout.specs.symbols.Sizes.{SizeEntry, block_check}
-use Rattle.dm_layout.specs.symbols.Symbols.{SymbolView}
-use Rattle.dm_layout.specs.symbols.Words.{WordsView, data_of}
-use Rattle.dm_layout.specs.symbols.Holding.{Holds}
-use Rattle.dm_symbol.specs.declared.symbol.dealing.Dealing.{Dealing}
-use Rattle.dm_symbol.specs.declared.symbol.dealing.Dealing.TheVariants.{Standard, Restarted}
-use Rattle.dm_symbol.specs.declared.symbol.reading.BlockReading.{BlockReading}
-use Rattle.dm_symbol.specs.declared.symbol.reading.Lost.TheVariants.{Block}
-use Rattle.dm_symbol.specs.Doubt.{sure_fault_count, erased_in}
-use Rattle.dm_symbol.specs.Dealings.{IsDealtTwoWays, dealt, erased_by}
-use Rattle.dm_symbol.specs.SymbolBlocks.{words_with, AreOfSize, AreHeldBy, AreBlocksNear, block_in, first_data}
-use Rattle.dm_symbol.specs.SymbolReading.{AreRestoredBy, IsFirstLost, block_reading, block_readings}
-use Rattle.dm_symbol.specs.Restored.{IsRestored}
-use Rattle.dm_symbol.specs.inner.Restoring.{IsRestarted, IsLost}
+use Rattle.dm_symbol.proofs.Names.{◌≡◌, ℕ, ◌≤◌, List, length, Option, ap, subst, ◌∙◌, range_with_len, length-map}
+use Rattle.dm_symbol.proofs.Names.{length-range_with_len, Extent, Wide, SizeEntry, block_check, SymbolView, WordsView}
+use Rattle.dm_symbol.proofs.Names.{data_of, Holds, Dealing, Standard, Restarted, BlockReading, Block, sure_fault_count}
+use Rattle.dm_symbol.proofs.Names.{erased_in, IsDealtTwoWays, dealt, erased_by, words_with, AreOfSize, AreHeldBy}
+use Rattle.dm_symbol.proofs.Names.{AreBlocksNear, block_in, first_data, AreRestoredBy, IsFirstLost, block_reading}
+use Rattle.dm_symbol.proofs.Names.{block_readings, IsRestored, IsRestarted, IsLost}
 use Rattle.dm_symbol.proofs.SymbolBelow.{held_is_one}
 
 -- Words that modules hold are codewords of a symbol of their size.

@@ -1,23 +1,12 @@
 -- The symbol of the smallest data codewords of a content is read as it, and no smaller one is.
-use Rattle.std.proofs.Common.{◌≡◌, ℕ, List, None, Ok, Err, sym, subst, ap, arith, ◌∙◌, length}
-use Rattle.std.proofs.lemmas.List.{length-take-le}
-use Rattle.dm_words.specs.declared.extent.Extent.{Extent}
-use Rattle.dm_words.specs.declared.fault.TooLong.{TooLong}
-use Rattle.dm_words.specs.Contents.{ContentView}
+use Rattle.dm_symbol.proofs.Names.{◌≡◌, ℕ, List, None, Ok, Err, sym, subst, ap, arith, ◌∙◌, length, length-take-le}
+use Rattle.dm_symbol.proofs.Names.{Extent, TooLong, ContentView, identifier_is_there, said_wide, SizeChoice, SizeEntry}
+use Rattle.dm_symbol.proofs.Names.{SymbolView, WordsView, IsLaid, Standard, erased_in, words_with, AreOfSize}
+use Rattle.dm_symbol.proofs.Names.{AreCodewordsOf, first_data, block_readings, ContentReadResult, content_reading_of}
+use Rattle.dm_symbol.proofs.Names.{IsSmallestContentWritten}
 use Rattle.dm_words.specs.SmallestContents.{IsSmallestContentFor, IsPlainestContent, SaysThenPads, NoSizeSays}
-use Rattle.dm_words.proofs.Exported.{identifier_is_there, said_wide}
-use Rattle.dm_layout.specs.declared.symbols.size.SizeChoice.{SizeChoice}
-use Rattle.dm_layout.specs.symbols.Sizes.{SizeEntry}
-use Rattle.dm_layout.specs.symbols.Symbols.{SymbolView}
-use Rattle.dm_layout.specs.symbols.Words.{WordsView}
-use Rattle.dm_layout.specs.symbols.Holding.{IsLaid}
-use Rattle.dm_symbol.specs.declared.symbol.dealing.Dealing.TheVariants.{Standard}
-use Rattle.dm_symbol.specs.Doubt.{erased_in}
-use Rattle.dm_symbol.specs.SymbolBlocks.{words_with, AreOfSize, AreCodewordsOf, first_data}
-use Rattle.dm_symbol.specs.SymbolReading.{block_readings}
-use Rattle.dm_symbol.specs.ContentReading.{ContentReadResult, content_reading_of}
-use Rattle.dm_symbol.specs.SmallestContentSymbol.{IsSmallestContentSymbol, IsSmallestContentWritten, NoneSays}
-use Rattle.dm_symbol.specs.SmallestContentSymbol.{IsContentReadWithNothingWrong, NoSmallerSays}
+use Rattle.dm_symbol.specs.SmallestContentSymbol.{IsSmallestContentSymbol, NoneSays, IsContentReadWithNothingWrong}
+use Rattle.dm_symbol.specs.SmallestContentSymbol.{NoSmallerSays}
 use Rattle.dm_symbol.proofs.WrittenContents.{laid_restored, no_sure_fault, nothing_is_wrong}
 
 -- The data codewords that a symbol is read by are as many as its size has.

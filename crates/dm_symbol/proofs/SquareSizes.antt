@@ -1,18 +1,16 @@
 -- The squares of the table among the sizes of all symbols.
-use Rattle.std.proofs.Common.{◌≡◌, ℕ, ◌/◌, ◌≤◌, Bool, true, false, cond, ◌&&◌, nat_eq, nat_le, List, [], ◌∷◌, ◌++◌}
-use Rattle.std.proofs.Common.{map, Option, Some, None, IsSome, refl, sym, ap, ◌∙◌, arith}
-use Rattle.std.specs.Prelude.{find}
-use Rattle.std.specs.List.{AllByRecursion}
-use Rattle.std.proofs.lemmas.Bool.{false≢true, leb-true, le-leb}
-use Rattle.dm_words.specs.declared.extent.Extent.{Extent}
+use Rattle.dm_symbol.proofs.Names.{◌≡◌, ℕ, ◌/◌, ◌≤◌, Bool, true, false, cond, ◌&&◌, nat_eq, nat_le, List, [], ◌∷◌, ◌++◌}
+use Rattle.dm_symbol.proofs.Names.{map, Option, Some, None, IsSome, refl, sym, ap, ◌∙◌, arith, find, AllByRecursion}
+use Rattle.dm_symbol.proofs.Names.{false≢true, Extent, Square, SizeEntry, entry_for, entry_of, SizeRow, IsRow}
+use Rattle.dm_symbol.proofs.Names.{row_for_words, row_with_side, symbol_size, row_facts, at_found}
+use Rattle.std.proofs.lemmas.Bool.{leb-true, le-leb}
 use Rattle.dm_words.specs.Messages.{most_spelled}
 use Rattle.dm_words.proofs.Exported.{room_for_spelled}
-use Rattle.dm_layout.specs.declared.symbols.size.SizeChoice.TheVariants.{Square}
-use Rattle.dm_layout.specs.symbols.Sizes.{SizeEntry, entry_for, entry_of, is_square}
+use Rattle.dm_layout.specs.symbols.Sizes.{is_square}
 use Rattle.dm_layout.specs.symbols.Sizes as symbols
-use Rattle.dm_layout.specs.Sizes.{SizeRow, IsRow, size_table, row_for_words, row_with_side, symbol_size, block_check}
-use Rattle.dm_layout.proofs.Exported.{found_row, row_facts}
-use Rattle.dm_layout.proofs.symbols.Exported.{at_found, found_passes}
+use Rattle.dm_layout.specs.Sizes.{size_table, block_check}
+use Rattle.dm_layout.proofs.Exported.{found_row}
+use Rattle.dm_layout.proofs.symbols.Exported.{found_passes}
 use Rattle.dm_symbol.proofs.SymbolWriteSteps.{chosen_holds}
 
 -- The size for a side stands in the table and has that side.

@@ -1,20 +1,14 @@
 -- What the layers below promise of symbols of any size, as the proofs here cite it.
-use Rattle.std.proofs.Common.{◌≡◌, ℕ, ◌+◌, ◌*◌, ◌<◌, ◌≤◌, List, [], length, get_or, refl, ap, ◌∙◌}
-use Rattle.std.proofs.Common.{arith}
-use Rattle.std.specs.List.{All}
-use Rattle.std.proofs.lemmas.List.{ext_get_or, length-take, length-take-le}
-use Rattle.dm_code.specs.Codeword.{IsNear, distance}
-use Rattle.dm_code.specs.Erased.{IsNearBut, blank, distance_but}
+use Rattle.dm_symbol.proofs.Names.{◌≡◌, ℕ, ◌+◌, ◌*◌, ◌<◌, ◌≤◌, List, [], length, get_or, refl, ap, ◌∙◌, arith, All}
+use Rattle.dm_symbol.proofs.Names.{ext_get_or, length-take, length-take-le, IsNear, distance, IsNearBut, distance_but}
+use Rattle.dm_symbol.proofs.Names.{SizeEntry, IsSize, count_in_block, codeword_count, block_data, block_check}
+use Rattle.dm_symbol.proofs.Names.{block_length, IsLaid, SymbolView, WordsView, data_of, size_facts, words_with}
+use Rattle.dm_symbol.proofs.Names.{AreOfSize, AreHeldBy, block_in}
+use Rattle.dm_code.specs.Erased.{blank}
 use Rattle.dm_code.proofs.Exported.{near_but_one, near_but_none, near_none_but}
-use Rattle.dm_layout.specs.symbols.Sizes.{SizeEntry, IsSize, count_in_block, codeword_count, block_data, block_check}
-use Rattle.dm_layout.specs.symbols.Sizes.{block_length}
-use Rattle.dm_layout.specs.symbols.Holding.{IsLaid}
-use Rattle.dm_layout.specs.symbols.Symbols.{SymbolView}
-use Rattle.dm_layout.specs.symbols.Words.{WordsView, IsWords, data_of}
-use Rattle.dm_layout.proofs.symbols.Exported.{length_of_block, word_of_block}
-use Rattle.dm_layout.proofs.symbols.Exported.{one_held, one_laid}
-use Rattle.dm_layout.proofs.symbols.Exported.{size_facts, short_block, some_block_data, block_parts}
-use Rattle.dm_symbol.specs.SymbolBlocks.{words_with, AreOfSize, AreHeldBy, block_in}
+use Rattle.dm_layout.specs.symbols.Words.{IsWords}
+use Rattle.dm_layout.proofs.symbols.Exported.{length_of_block, word_of_block, one_held, one_laid, short_block}
+use Rattle.dm_layout.proofs.symbols.Exported.{some_block_data, block_parts}
 
 -- No symbol has more data codewords than these.
 pub data_fits : (words : WordsView) (list : List ℕ) → IsWords words → list ≡ data_of words → length list ≤ 1558

@@ -1,20 +1,16 @@
 -- Data codewords are completed by check codewords, and a size that is chosen stands in the table.
-use Rattle.std.proofs.Common.{◌≡◌, ℕ, ◌<◌, List, ◌++◌, length, take, replicate, Some}
-use Rattle.std.proofs.Common.{refl, sym, ap, subst, ◌∙◌, arith}
-use Rattle.std.specs.Prelude.{nat_le, ◌&&◌, find}
-use Rattle.std.proofs.Common.{Bool, true, false, not, cond, nat_eq, [], ◌∷◌}
-use Rattle.std.specs.List.{All, AllByRecursion, list_all}
-use Rattle.std.proofs.lemmas.Bool.{and_parts, and_from, eq-eqb}
-use Rattle.std.proofs.lemmas.List.{get_or-replicate, length-append, length-replicate, length-take-le}
-use Rattle.std.proofs.lemmas.List.Elements.{All-append, All-from_get_or, All-take}
-use Rattle.std.proofs.Math.Seq.{take-append_seam}
-use Rattle.dm_code.specs.Codeword.{IsCodeword}
-use Rattle.dm_layout.specs.declared.symbols.size.SizeChoice.{SizeChoice}
-use Rattle.dm_layout.specs.symbols.Sizes.{SizeEntry, IsSize, entry_for, takes}
-use Rattle.dm_layout.specs.symbols.Sizes.{size_table, block_data, block_check, block_length}
+use Rattle.dm_symbol.proofs.Names.{◌≡◌, ℕ, ◌<◌, List, ◌++◌, length, take, replicate, Some, refl, sym, ap, subst, ◌∙◌}
+use Rattle.dm_symbol.proofs.Names.{arith, nat_le, ◌&&◌, find, Bool, true, false, not, cond, nat_eq, [], ◌∷◌, All}
+use Rattle.dm_symbol.proofs.Names.{AllByRecursion, and_parts, and_from, eq-eqb, length-append, length-take-le}
+use Rattle.dm_symbol.proofs.Names.{All-from_get_or, All-take, take-append_seam, IsCodeword, SizeChoice, SizeEntry}
+use Rattle.dm_symbol.proofs.Names.{IsSize, entry_for, block_data, block_check, block_length, at_found}
+use Rattle.dm_symbol.proofs.Names.{blocks_make_words, same_data_by_blocks, words_with, AreOfSize, AreCodewordsOf}
+use Rattle.dm_symbol.proofs.Names.{block_in, first_data}
+use Rattle.std.specs.List.{list_all}
+use Rattle.std.proofs.lemmas.List.{get_or-replicate, length-replicate}
+use Rattle.std.proofs.lemmas.List.Elements.{All-append}
+use Rattle.dm_layout.specs.symbols.Sizes.{takes, size_table}
 use Rattle.dm_layout.specs.symbols.Blocks.{AreBlocks}
-use Rattle.dm_layout.proofs.symbols.Exported.{at_found, blocks_make_words, same_data_by_blocks}
-use Rattle.dm_symbol.specs.SymbolBlocks.{words_with, AreOfSize, AreCodewordsOf, block_in, first_data}
 use Rattle.dm_symbol.proofs.Below.{codewords_are_bytes, checks_are_there}
 use Rattle.dm_symbol.proofs.Choosing.{chosen}
 use Rattle.dm_symbol.proofs.SymbolBelow.{block_lengths, block_facts}

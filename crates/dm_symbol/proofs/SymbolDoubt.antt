@@ -1,29 +1,19 @@
 -- Which codewords are erased, by the marks of a symbol, and that none is where no module is doubtful.
-use Rattle.std.proofs.Common.{◌≡◌, ℕ, zero, suc, ◌+◌, ◌-◌, ◌/◌, ◌%◌, ◌^◌, ◌<◌, ◌≤◌, Bool, true, false, not, cond, ◌||◌}
-use Rattle.std.proofs.Common.{◌&&◌, nat_eq, List, [], ◌∷◌}
-use Rattle.std.proofs.Common.{length, get_or, map, filter, Option, Some, None, refl, sym, ap, subst, ◌∙◌, arith}
-use Rattle.std.specs.Prelude.{sum_by, count_by}
-use Rattle.std.specs.List.{range_with_len, list_any}
-use Rattle.std.proofs.lemmas.Bool.{agree_below_at}
-use Rattle.std.proofs.lemmas.List.{length-map}
-use Rattle.std.proofs.lemmas.List.Sums.{sum_by-cons}
-use Rattle.std.proofs.lemmas.List.FromFn.{length-range_with_len}
+use Rattle.dm_symbol.proofs.Names.{◌≡◌, ℕ, zero, suc, ◌+◌, ◌-◌, ◌/◌, ◌%◌, ◌^◌, ◌<◌, ◌≤◌, Bool, true, false, not, cond}
+use Rattle.dm_symbol.proofs.Names.{◌&&◌, nat_eq, List, [], ◌∷◌, length, get_or, map, Option, Some, None, refl, sym, ap}
+use Rattle.dm_symbol.proofs.Names.{subst, ◌∙◌, arith, sum_by, count_by, range_with_len, agree_below_at, length-map}
+use Rattle.dm_symbol.proofs.Names.{sum_by-cons, length-range_with_len, place, erased_places, erased_within, SizeEntry}
+use Rattle.dm_symbol.proofs.Names.{count_in_block, mapping_rows, mapping_columns, codeword_count, block_length}
+use Rattle.dm_symbol.proofs.Names.{SymbolView, WordsView, places_of_block, Holds, is_fault, is_doubtful_bit, is_erased}
+use Rattle.dm_symbol.proofs.Names.{erased_in, is_sure_fault, sure_fault_count, is_mark, marked_in}
+use Rattle.std.proofs.Common.{◌||◌, filter}
+use Rattle.std.specs.List.{list_any}
 use Rattle.dm_place.specs.Holding.{bit_of}
-use Rattle.dm_place.specs.Placement.{place, shapes}
+use Rattle.dm_place.specs.Placement.{shapes}
 use Rattle.dm_place.proofs.Exported.{count_at_sides}
-use Rattle.dm_code.specs.Erased.{erased_places_from, erased_places}
-use Rattle.dm_code.proofs.Exported.{erased_within}
-use Rattle.dm_layout.specs.symbols.Sizes.{SizeEntry, count_in_block, mapping_rows, mapping_columns, codeword_count}
-use Rattle.dm_layout.specs.symbols.Sizes.{block_length}
-use Rattle.dm_layout.specs.symbols.Symbols.{SymbolView}
-use Rattle.dm_layout.specs.symbols.Words.{WordsView}
-use Rattle.dm_layout.specs.symbols.Blocks.{places_of_block}
-use Rattle.dm_layout.specs.symbols.Holding.{Holds}
-use Rattle.dm_layout.proofs.symbols.Exported.{length-block_of}
-use Rattle.dm_layout.proofs.symbols.Exported.{placed_size}
-use Rattle.dm_layout.specs.symbols.Border.{is_fault, border_fault_count}
-use Rattle.dm_symbol.specs.Doubt.{is_doubtful_bit, is_erased, erased_in, is_sure_fault, sure_fault_count}
-use Rattle.dm_symbol.specs.inner.Marks.{is_mark, marked_in}
+use Rattle.dm_code.specs.Erased.{erased_places_from}
+use Rattle.dm_layout.proofs.symbols.Exported.{length-block_of, placed_size}
+use Rattle.dm_layout.specs.symbols.Border.{border_fault_count}
 
 -- ---- how many places a block has
 

@@ -1,20 +1,11 @@
 -- The words that a symbol of any size holds are restored to one list of codewords, or are lost by one block.
-use Rattle.std.proofs.Common.{◌≡◌, ℕ, ◌+◌, ◌*◌, ◌<◌, List, Option, inl, inr}
-use Rattle.std.proofs.Common.{refl, sym, subst, arith}
-use Rattle.std.specs.List.{All}
+use Rattle.dm_symbol.proofs.Names.{◌≡◌, ℕ, ◌+◌, ◌*◌, ◌<◌, List, Option, inl, inr, refl, sym, subst, arith, All}
+use Rattle.dm_symbol.proofs.Names.{All-from_get_or, All-get_or, All-take, Extent, Wide, SizeEntry, block_check}
+use Rattle.dm_symbol.proofs.Names.{block_length, SymbolView, Dealing, Standard, Restarted, erased_in, IsDealtTwoWays}
+use Rattle.dm_symbol.proofs.Names.{dealt, erased_by, words_with, AreOfSize, AreHeldBy, AreBlocksNear, block_in}
+use Rattle.dm_symbol.proofs.Names.{first_data, AreRestoredBy, IsTried, AreRestored, AreLost, IsFirstLost}
 use Rattle.std.proofs.lemmas.Bool.{cases_order}
-use Rattle.std.proofs.lemmas.List.Elements.{All-from_get_or, All-get_or, All-take}
-use Rattle.dm_words.specs.declared.extent.Extent.{Extent}
-use Rattle.dm_words.specs.declared.extent.Extent.TheVariants.{Wide}
-use Rattle.dm_layout.specs.symbols.Sizes.{SizeEntry, block_check, block_length}
-use Rattle.dm_layout.specs.symbols.Symbols.{SymbolView}
 use Rattle.dm_layout.proofs.symbols.Exported.{place_inside, same_by_blocks}
-use Rattle.dm_symbol.specs.declared.symbol.dealing.Dealing.{Dealing}
-use Rattle.dm_symbol.specs.declared.symbol.dealing.Dealing.TheVariants.{Standard, Restarted}
-use Rattle.dm_symbol.specs.Doubt.{erased_in}
-use Rattle.dm_symbol.specs.Dealings.{IsDealtTwoWays, dealt, erased_by}
-use Rattle.dm_symbol.specs.SymbolBlocks.{words_with, AreOfSize, AreHeldBy, AreBlocksNear, block_in, first_data}
-use Rattle.dm_symbol.specs.SymbolReading.{AreRestoredBy, IsTried, AreRestored, AreLost, IsFirstLost}
 use Rattle.dm_symbol.proofs.SymbolBelow.{block_places, block_lengths, block_facts, held_is_one, near_but_is_one}
 use Rattle.dm_symbol.proofs.Dealings.{dealt_of_size, erased_by_inside, not_restarted, same_dealt}
 

@@ -1,19 +1,12 @@
 -- The steps by which the blocks of a symbol of any size are restored, one after the other.
-use Rattle.std.proofs.Common.{◌≡◌, ℕ, zero, suc, ◌+◌, ◌-◌, ◌*◌, ◌<◌, ◌≤◌, Bool, List, [], ◌∷◌, ◌++◌}
-use Rattle.std.proofs.Common.{length, get_or, map, take, take-suc, Option, Some, None, Result, Ok, Err, refl, sym, ap}
-use Rattle.std.proofs.Common.{subst, ◌∙◌}
-use Rattle.std.proofs.Common.{below_more, arith}
-use Rattle.std.specs.Prelude.{OnOk, IfErr}
-use Rattle.std.specs.List.{range_with_len}
-use Rattle.std.proofs.lemmas.List.{get_or_append_left, get_or_push, map-append}
-use Rattle.dm_code.specs.Codeword.{IsNear, distance}
-use Rattle.dm_code.specs.Erased.{IsNearBut, distance_but, erased_places}
-use Rattle.dm_layout.specs.symbols.Sizes.{SizeEntry, block_check}
-use Rattle.dm_symbol.specs.declared.symbol.reading.BlockReading.{BlockReading}
-use Rattle.dm_symbol.specs.SymbolBlocks.{AreBlocksNear, HasNearBut, block_in}
-use Rattle.dm_symbol.specs.SymbolReading.{IsFirstLost, IsBlockRestored, AreBlocksMended}
-use Rattle.dm_symbol.specs.SymbolReading.{block_reading, block_readings}
-use Rattle.dm_symbol.specs.inner.Marks.{is_mark}
+use Rattle.dm_symbol.proofs.Names.{◌≡◌, ℕ, zero, suc, ◌+◌, ◌-◌, ◌*◌, ◌<◌, ◌≤◌, Bool, List, [], ◌∷◌, ◌++◌, length}
+use Rattle.dm_symbol.proofs.Names.{get_or, map, take, Option, Some, None, Result, Ok, Err, refl, sym, ap, subst, ◌∙◌}
+use Rattle.dm_symbol.proofs.Names.{below_more, arith, OnOk, range_with_len, get_or_append_left, get_or_push, map-append}
+use Rattle.dm_symbol.proofs.Names.{IsNear, distance, IsNearBut, distance_but, erased_places, SizeEntry, block_check}
+use Rattle.dm_symbol.proofs.Names.{BlockReading, AreBlocksNear, HasNearBut, block_in, IsFirstLost, IsBlockRestored}
+use Rattle.dm_symbol.proofs.Names.{AreBlocksMended, block_reading, block_readings, is_mark}
+use Rattle.std.proofs.Common.{take-suc}
+use Rattle.std.specs.Prelude.{IfErr}
 use Rattle.dm_symbol.proofs.SymbolBelow.{near_plain, distance_plain}
 
 -- One place more is asked for its mark.

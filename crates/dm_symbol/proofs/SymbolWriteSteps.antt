@@ -1,16 +1,10 @@
 -- Check codewords follow from the data codewords, and the sizes that are chosen for so many of these hold them.
-use Rattle.std.proofs.Common.{◌≡◌, ◌≢◌, ℕ, ◌+◌, ◌<◌, ◌≤◌, List, ◌++◌, length, get_or, take, Some}
-use Rattle.std.proofs.Common.{inl, inr, refl, sym, ap, subst, ◌∙◌, arith}
-use Rattle.std.proofs.lemmas.Bool.{cases_eq}
-use Rattle.std.proofs.lemmas.List.{get_or-take, length-take-le}
-use Rattle.std.proofs.Math.Seq.{take-append_seam}
-use Rattle.dm_code.specs.Codeword.{IsCodeword, distance}
-use Rattle.dm_layout.specs.declared.symbols.size.SizeChoice.{SizeChoice}
-use Rattle.dm_layout.specs.symbols.Sizes.{SizeEntry, entry_for, block_data, block_check}
-use Rattle.dm_layout.specs.symbols.Blocks.{block_of}
-use Rattle.dm_layout.proofs.symbols.Exported.{data_of_block, same_data_by_blocks}
-use Rattle.dm_layout.proofs.symbols.Exported.{enough}
-use Rattle.dm_symbol.specs.SymbolBlocks.{words_with, AreOfSize, AreCodewordsOf, block_in, first_data}
+use Rattle.dm_symbol.proofs.Names.{◌≡◌, ◌≢◌, ℕ, ◌+◌, ◌<◌, ◌≤◌, List, ◌++◌, length, get_or, take, Some, inl, inr, refl}
+use Rattle.dm_symbol.proofs.Names.{sym, ap, subst, ◌∙◌, arith, cases_eq, get_or-take, length-take-le, take-append_seam}
+use Rattle.dm_symbol.proofs.Names.{IsCodeword, distance, SizeChoice, SizeEntry, entry_for, block_data, block_check}
+use Rattle.dm_symbol.proofs.Names.{block_of, same_data_by_blocks, words_with, AreOfSize, AreCodewordsOf, block_in}
+use Rattle.dm_symbol.proofs.Names.{first_data}
+use Rattle.dm_layout.proofs.symbols.Exported.{data_of_block, enough}
 use Rattle.dm_symbol.proofs.Below.{codewords_apart}
 use Rattle.dm_symbol.proofs.Distances.{differing_prefix}
 use Rattle.dm_symbol.proofs.SymbolBelow.{block_lengths, block_facts}

@@ -1,40 +1,29 @@
 -- A normal grid of which some cells are turned over is still read.
-use Rattle.std.proofs.Common.{◌≡◌, ℕ, zero, suc, ◌+◌, ◌-◌, ◌*◌, ◌/◌, ◌%◌, ◌^◌, ◌<◌, ◌≤◌, Bool, true, false, not, ◌&&◌}
-use Rattle.std.proofs.Common.{eqb, List, get_or, None, inl, inr, refl, sym, ap, subst, ◌∙◌, arith}
+use Rattle.dm_symbol.proofs.Names.{◌≡◌, ℕ, zero, suc, ◌+◌, ◌-◌, ◌*◌, ◌/◌, ◌%◌, ◌^◌, ◌<◌, ◌≤◌, Bool, true, false, not}
+use Rattle.dm_symbol.proofs.Names.{◌&&◌, eqb, List, get_or, None, inl, inr, refl, sym, ap, subst, ◌∙◌, arith}
+use Rattle.dm_symbol.proofs.Names.{cases_Bool, cases_eq, cases_lt, eqb-true, false≢true, Extent, Usual, Item, Profile}
+use Rattle.dm_symbol.proofs.Names.{IsNear, distance, IsNearBut, Square, SizeRow, IsRow, GridView, IsGrid}
+use Rattle.dm_symbol.proofs.Names.{symbol_modules, block_check, SymbolView, border_fault_count, row_facts, same_row}
+use Rattle.dm_symbol.proofs.Names.{as_content, IsMessage, Standard, sure_fault_count, AreHeldBy, AreOfSize, block_in}
+use Rattle.dm_symbol.proofs.Names.{AreRestored, IsNormalGrid, Reads}
 use Rattle.std.specs.Bool.{beq}
 use Rattle.std.specs.Int.{bit_at}
 use Rattle.std.proofs.Math.Nat.{pow-suc}
-use Rattle.std.proofs.lemmas.Bool.{cases_Bool, cases_eq, cases_lt, eqb-true, eqb-false, true≢false, false≢true}
+use Rattle.std.proofs.lemmas.Bool.{eqb-false, true≢false}
 use Rattle.std.proofs.lemmas.Nat.{same_from_place, mul-add-lt}
 use Rattle.std.proofs.lemmas.Nat.Bits.{bit_at_lowest, bit_at-suc}
-use Rattle.dm_words.specs.declared.extent.Extent.{Extent}
-use Rattle.dm_words.specs.declared.extent.Extent.TheVariants.{Usual}
-use Rattle.dm_words.specs.declared.item.Item.{Item}
-use Rattle.dm_words.specs.declared.profile.Profile.{Profile}
-use Rattle.dm_code.specs.Codeword.{IsNear, distance, differing}
-use Rattle.dm_code.specs.Erased.{IsNearBut}
+use Rattle.dm_code.specs.Codeword.{differing}
 use Rattle.dm_place.specs.declared.shape.Cell.{Cell}
-use Rattle.dm_layout.specs.declared.symbols.size.SizeChoice.TheVariants.{Square}
-use Rattle.dm_layout.specs.Sizes.{SizeRow, IsRow, codeword_count, block_length}
+use Rattle.dm_layout.specs.Sizes.{codeword_count, block_length}
 use Rattle.dm_layout.specs.Blocks.{block_of}
-use Rattle.dm_layout.specs.Grid.{GridView, IsGrid, cell_at, symbol_modules}
+use Rattle.dm_layout.specs.Grid.{cell_at}
 use Rattle.dm_layout.specs.Words.{WordsView}
-use Rattle.dm_layout.specs.symbols.Sizes.{block_check}
-use Rattle.dm_layout.specs.symbols.Symbols.{SymbolView}
-use Rattle.dm_layout.specs.Border.{border_fault_count, is_fault, is_border, border_is_dark, symbol_line}
+use Rattle.dm_layout.specs.Border.{is_fault, is_border, border_is_dark, symbol_line}
 use Rattle.dm_layout.specs.Placement.{place, At, IsPlace}
 use Rattle.dm_layout.specs.Holds.{Holds, bit_of}
 use Rattle.dm_place.proofs.Exported.{one_bit}
-use Rattle.dm_layout.proofs.Exported.{lies_inside, row_facts, same_row, symbol_line-one, count_at_row, once_at_row}
-use Rattle.dm_layout.proofs.Exported.{every_grid_holds, laid_in_grid, length_of_block, modules_hold, word_of_block}
-use Rattle.dm_words.specs.ContentExtents.{as_content}
-use Rattle.dm_words.specs.Messages.{IsMessage}
-use Rattle.dm_symbol.specs.declared.symbol.dealing.Dealing.TheVariants.{Standard}
-use Rattle.dm_symbol.specs.Doubt.{sure_fault_count}
-use Rattle.dm_symbol.specs.SymbolBlocks.{AreHeldBy, AreOfSize, block_in}
-use Rattle.dm_symbol.specs.SymbolReading.{AreRestored}
-use Rattle.dm_symbol.specs.NormalGrid.{IsNormalGrid}
-use Rattle.dm_symbol.specs.Reading.{Reads}
+use Rattle.dm_layout.proofs.Exported.{lies_inside, symbol_line-one, count_at_row, once_at_row, every_grid_holds}
+use Rattle.dm_layout.proofs.Exported.{laid_in_grid, length_of_block, modules_hold, word_of_block}
 use Rattle.dm_symbol.specs.Laws.{turned_cells}
 use Rattle.dm_symbol.proofs.Counts.{cells_grow, none_pass, IsWitness, differing_below_cells}
 use Rattle.dm_symbol.proofs.SquareSizes.{half}

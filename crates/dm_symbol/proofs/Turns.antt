@@ -1,14 +1,13 @@
 -- The check codewords of 144 x 144, turned ten by ten, there and back.
-use Rattle.std.proofs.Common.{◌≡◌, ℕ, ◌+◌, ◌-◌, ◌*◌, ◌/◌, ◌<◌, true, cond, nat_eq, nat_lt, List}
-use Rattle.std.proofs.Common.{length, get_or, map, take, inl, inr, refl, sym, ap, subst, ◌∙◌, arith}
-use Rattle.std.specs.List.{All, range_with_len}
-use Rattle.std.proofs.lemmas.Bool.{agree_below_at, cases_lt, cond_above, cond_below, eqb-true, ltb-true}
+use Rattle.dm_symbol.proofs.Names.{◌≡◌, ℕ, ◌+◌, ◌-◌, ◌*◌, ◌/◌, ◌<◌, true, cond, nat_eq, List, length, get_or, map, take}
+use Rattle.dm_symbol.proofs.Names.{inl, inr, refl, sym, ap, subst, ◌∙◌, arith, All, range_with_len, agree_below_at}
+use Rattle.dm_symbol.proofs.Names.{cases_lt, cond_above, cond_below, eqb-true, ext_get_or, get_or-take}
+use Rattle.dm_symbol.proofs.Names.{get_or_append_left, length-append, length-take-le, All-from_get_or, All-get_or}
+use Rattle.dm_symbol.proofs.Names.{get_or-map-range_with_len, length-map-range_with_len, turned, turned_place}
+use Rattle.std.proofs.Common.{nat_lt}
+use Rattle.std.proofs.lemmas.Bool.{ltb-true}
 use Rattle.std.proofs.lemmas.Nat.{mod_below}
-use Rattle.std.proofs.lemmas.List.{ext_get_or, get_or-append_right, get_or-take, get_or_append_left, get_or_past}
-use Rattle.std.proofs.lemmas.List.{length-append, length-take-le}
-use Rattle.std.proofs.lemmas.List.Elements.{All-from_get_or, All-get_or}
-use Rattle.std.proofs.lemmas.List.FromFn.{get_or-map-range_with_len, length-map-range_with_len}
-use Rattle.dm_symbol.specs.inner.Turns.{turned, turned_place}
+use Rattle.std.proofs.lemmas.List.{get_or-append_right, get_or_past}
 
 -- The place of the codeword that the one at place j becomes.
 abbrev pub place_of : ℕ → ℕ → ℕ

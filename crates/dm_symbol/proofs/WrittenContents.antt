@@ -1,36 +1,17 @@
 -- Symbols in which contents are written are read as these, and what follows for normal symbols.
-use Rattle.std.proofs.Common.{◌≡◌, ◌↔◌, ℕ, List, replicate, None, Result, Ok, refl, sym}
-use Rattle.std.proofs.Common.{[], ap, subst, ◌∙◌, arith}
-use Rattle.std.proofs.Common.{zero, suc, ◌+◌, ◌∷◌, map}
-use Rattle.std.specs.List.{range_with_len}
-use Rattle.dm_code.specs.Erased.{IsNearBut}
-use Rattle.dm_layout.specs.symbols.Holding.{IsLaid}
-use Rattle.dm_symbol.specs.declared.symbol.reading.BlockReading.{BlockReading}
-use Rattle.dm_symbol.specs.Doubt.{sure_fault_count, erased_in}
-use Rattle.dm_symbol.specs.SymbolBlocks.{words_with, AreCodewordsOf, block_in, first_data}
-use Rattle.dm_symbol.specs.SymbolReading.{AreRestored, block_reading, block_readings}
+use Rattle.dm_symbol.proofs.Names.{◌≡◌, ◌↔◌, ℕ, List, replicate, None, Result, Ok, refl, sym, [], ap, subst, ◌∙◌, arith}
+use Rattle.dm_symbol.proofs.Names.{zero, suc, ◌+◌, ◌∷◌, map, range_with_len, IsNearBut, IsLaid, BlockReading}
+use Rattle.dm_symbol.proofs.Names.{sure_fault_count, erased_in, words_with, AreCodewordsOf, block_in, first_data}
+use Rattle.dm_symbol.proofs.Names.{AreRestored, block_reading, block_readings, Extent, Wide, Profile, ContentView}
+use Rattle.dm_symbol.proofs.Names.{IsContent, IsSaidIn, Says, content_form, padded, said_is_one, SizeChoice, SizeEntry}
+use Rattle.dm_symbol.proofs.Names.{block_check, SymbolView, size_facts, Standard, ContentReadFault, nothing_wrong}
+use Rattle.dm_symbol.proofs.Names.{ContentReadingView, ReadsContent, ContentReadResult, content_reading_of}
+use Rattle.dm_symbol.proofs.Names.{IsIdentifier, IsContentWrittenIn}
 use Rattle.dm_symbol.proofs.Distances.{near_itself, distance_to_itself}
 use Rattle.dm_symbol.proofs.SymbolBelow.{near_plain, distance_plain}
 use Rattle.dm_symbol.proofs.SymbolDoubt.{faults_by_none, erased_by_none}
-use Rattle.dm_words.specs.declared.extent.Extent.{Extent}
-use Rattle.dm_words.specs.declared.extent.Extent.TheVariants.{Wide}
-use Rattle.dm_words.specs.declared.profile.Profile.{Profile}
-use Rattle.dm_words.specs.Contents.{ContentView, IsContent}
-use Rattle.dm_words.specs.ContentExtents.{IsSaidIn}
-use Rattle.dm_words.specs.Contents.{Says}
-use Rattle.dm_words.specs.ContentForm.{content_form}
-use Rattle.dm_words.specs.Pads.{padded}
-use Rattle.dm_words.proofs.Exported.{form_says_in, content_form_codewords, content_form_count, said_is_one}
-use Rattle.dm_layout.specs.declared.symbols.size.SizeChoice.{SizeChoice}
-use Rattle.dm_layout.specs.symbols.Sizes.{SizeEntry, block_check}
-use Rattle.dm_layout.specs.symbols.Symbols.{SymbolView}
-use Rattle.dm_layout.proofs.symbols.Exported.{size_facts}
-use Rattle.dm_symbol.specs.declared.symbol.dealing.Dealing.TheVariants.{Standard}
-use Rattle.dm_symbol.specs.declared.contents.ContentReadFault.{ContentReadFault}
-use Rattle.dm_symbol.specs.SymbolLaws.{nothing_wrong}
-use Rattle.dm_symbol.specs.ContentReading.{ContentReadingView, ReadsContent, ContentReadResult, content_reading_of}
-use Rattle.dm_words.specs.Symbology.{IsIdentifier}
-use Rattle.dm_symbol.specs.NormalContent.{ContentFits, IsContentWrittenIn}
+use Rattle.dm_words.proofs.Exported.{form_says_in, content_form_codewords, content_form_count}
+use Rattle.dm_symbol.specs.NormalContent.{ContentFits}
 use Rattle.dm_symbol.proofs.ContentReadings.{one_content_result}
 use Rattle.dm_symbol.proofs.SymbolSteps.{reading_is}
 use Rattle.dm_symbol.proofs.WrittenWords.{words_written_once, written_hold, written_words_are_there, written_words_tell}

@@ -1,18 +1,10 @@
 -- The symbol in which data codewords are written: it is one, it holds them, and it is there where they fit.
-use Rattle.std.proofs.Common.{◌≡◌, ℕ, ◌<◌, ◌≤◌, List, length, Option, Some, None, IsSome, Result, Ok, Err, IsErr, refl}
-use Rattle.std.proofs.Common.{sym, ap, subst, ◌∙◌}
-use Rattle.std.specs.List.{All}
-use Rattle.std.proofs.lemmas.Bool.{false≢true}
-use Rattle.dm_words.specs.declared.fault.TooLong.{TooLong}
-use Rattle.dm_words.specs.Pads.{padded}
-use Rattle.dm_layout.specs.declared.symbols.size.SizeChoice.{SizeChoice}
-use Rattle.dm_layout.specs.symbols.Sizes.{SizeEntry, entry_for}
-use Rattle.dm_layout.specs.symbols.Symbols.{SymbolView}
-use Rattle.dm_layout.specs.symbols.Words.{WordsView}
-use Rattle.dm_layout.specs.symbols.Holding.{IsLaid}
+use Rattle.dm_symbol.proofs.Names.{◌≡◌, ℕ, ◌<◌, ◌≤◌, List, length, Option, Some, None, IsSome, Result, Ok, Err, IsErr}
+use Rattle.dm_symbol.proofs.Names.{refl, sym, ap, subst, ◌∙◌, All, false≢true, TooLong, padded, SizeChoice, SizeEntry}
+use Rattle.dm_symbol.proofs.Names.{entry_for, SymbolView, WordsView, IsLaid, words_with, AreOfSize, AreCodewordsOf}
+use Rattle.dm_symbol.proofs.Names.{first_data, FitChoice}
 use Rattle.dm_layout.proofs.symbols.Exported.{some_laid}
-use Rattle.dm_symbol.specs.SymbolBlocks.{words_with, AreOfSize, AreCodewordsOf, first_data}
-use Rattle.dm_symbol.specs.WrittenWords.{FitChoice, AreWrittenIn, AreWritten}
+use Rattle.dm_symbol.specs.WrittenWords.{AreWrittenIn, AreWritten}
 use Rattle.dm_symbol.proofs.SymbolBelow.{held_is_one, laid_is_one}
 use Rattle.dm_symbol.proofs.SymbolCompletions.{checks_for, chosen_stands}
 use Rattle.dm_symbol.proofs.SymbolWriteSteps.{checks_follow, chosen_holds}

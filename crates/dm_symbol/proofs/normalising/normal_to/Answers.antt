@@ -1,6 +1,4 @@
-use Rattle.std.proofs.Common.{refl}
-use Rattle.std.proofs.lemmas.Bool.{false≢true}
-use Rattle.dm_symbol.specs.NormalOutcomes.{IsNormalOrFault}
+use Rattle.dm_symbol.proofs.Names.{refl, false≢true, IsNormalOrFault}
 use Rattle.dm_symbol.proofs.GridNormals.{is_normalised}
 use Rattle.dm_symbol.proofs.normalising.normal_to.Goals as goal
 

@@ -1,4 +1,4 @@
-use Rattle.std.proofs.Common.{◌≡◌, map, take}
+use Rattle.dm_symbol.proofs.Names.{◌≡◌, map, take}
 use Rattle.dm_symbol.proofs.reading.corrected_in.Given as goal
 
 abbrev pub invariant-loop-block : goal.invariant-loop-block

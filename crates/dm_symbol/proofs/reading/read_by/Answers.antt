@@ -1,17 +1,7 @@
-use Rattle.std.proofs.Common.{◌≡◌, ◌≤◌, ◌*◌, ◌∙◌, length, map, None, Ok, Err, ap, subst, sym, refl, arith, rules}
-use Rattle.dm_layout.specs.Sizes.{symbol_size}
-use Rattle.dm_layout.specs.symbols.Sizes.{SizeEntry, codeword_count}
-use Rattle.dm_layout.specs.symbols.Symbols.{SymbolView}
-use Rattle.dm_layout.specs.symbols.Words.{data_of}
-use Rattle.dm_layout.proofs.Exported.{row_facts}
-use Rattle.dm_words.specs.declared.extent.Extent.TheVariants.{Usual}
-use Rattle.dm_words.specs.Spells.{Spells, Refused}
-use Rattle.dm_symbol.specs.declared.symbol.reading.BlockReading.{BlockReading}
+use Rattle.dm_symbol.proofs.Names.{◌≡◌, ◌≤◌, ◌*◌, ◌∙◌, length, map, None, Ok, Err, ap, subst, sym, refl, arith, rules}
+use Rattle.dm_symbol.proofs.Names.{symbol_size, SizeEntry, codeword_count, SymbolView, data_of, row_facts, Usual}
+use Rattle.dm_symbol.proofs.Names.{Spells, Refused, BlockReading, Border, Block, IsRead, reading_of, IsRestored, IsLost}
 use Rattle.dm_symbol.specs.declared.reading.ReadFault.TheVariants as fault
-use Rattle.dm_symbol.specs.declared.symbol.reading.Lost.TheVariants.{Border, Block}
-use Rattle.dm_symbol.specs.Reading.{IsRead, reading_of}
-use Rattle.dm_symbol.specs.Restored.{IsRestored}
-use Rattle.dm_symbol.specs.inner.Restoring.{IsLost}
 use Rattle.dm_symbol.proofs.GridReadSteps.{block_is_read, border_is_read, fault_is_read, message_is_read}
 use Rattle.dm_symbol.proofs.Restoring.{restored_count}
 use Rattle.dm_symbol.proofs.SquareSizes.{room_for_grid}

@@ -1,12 +1,6 @@
-use Rattle.std.proofs.Common.{◌≡◌, ◌∙◌, ◌<◌, length, refl, sym, ap, subst, Some, arith, rules}
-use Rattle.dm_layout.specs.symbols.Sizes.{SizeEntry, codeword_count}
-use Rattle.dm_layout.specs.Sizes.{most_grid_data, row_for_words, symbol_size}
-use Rattle.dm_layout.specs.Grid.{symbol_modules}
-use Rattle.dm_layout.specs.declared.symbols.size.SizeChoice.TheVariants.{Square}
-use Rattle.dm_layout.proofs.Exported.{row_facts}
-use Rattle.dm_words.specs.NormalForm.{normal_form}
-use Rattle.dm_words.specs.Pads.{padded}
-use Rattle.dm_symbol.specs.SymbolBlocks.{AreCodewordsOf, first_data}
+use Rattle.dm_symbol.proofs.Names.{◌≡◌, ◌∙◌, ◌<◌, length, refl, sym, ap, subst, Some, arith, rules, SizeEntry}
+use Rattle.dm_symbol.proofs.Names.{codeword_count, most_grid_data, row_for_words, symbol_size, symbol_modules, Square}
+use Rattle.dm_symbol.proofs.Names.{row_facts, normal_form, padded, AreCodewordsOf, first_data}
 use Rattle.dm_symbol.proofs.GridNormals.{is_written, none_is_written, too_long_fits_none}
 use Rattle.dm_symbol.proofs.SquareSizes.{same_smallest}
 use Rattle.dm_symbol.proofs.WrittenWords.{laid_are_written}

@@ -1,12 +1,6 @@
-use Rattle.std.proofs.Common.{Err, Ok, refl, rules, subst}
-use Rattle.std.specs.Prelude.{option_map}
-use Rattle.std.proofs.lemmas.Bool.{false≢true}
-use Rattle.dm_words.specs.Contents.{ContentView}
-use Rattle.dm_layout.specs.declared.symbols.size.SizeChoice.TheVariants.{Square}
-use Rattle.dm_layout.proofs.symbols.Exported.{size_facts}
-use Rattle.dm_symbol.specs.NormalContent.{IsContentWritten}
+use Rattle.dm_symbol.proofs.Names.{Err, Ok, refl, rules, subst, option_map, false≢true, ContentView, Square, size_facts}
+use Rattle.dm_symbol.proofs.Names.{IsContentWritten, IsNormalOrFault}
 use Rattle.dm_symbol.proofs.ChosenWords.{content_is}
-use Rattle.dm_symbol.specs.NormalOutcomes.{IsNormalOrFault}
 use Rattle.dm_symbol.proofs.NormalContents.{is_content_normalised}
 use Rattle.dm_symbol.proofs.contents.normalising.normal_content_to.Goals as goal
 

@@ -1,13 +1,7 @@
-use Rattle.std.proofs.Common.{◌≡◌, ◌∙◌, length, refl, ap, subst, arith, rules, inl}
-use Rattle.std.specs.Prelude.{option_map}
-use Rattle.dm_layout.specs.symbols.Sizes.{SizeEntry}
-use Rattle.dm_layout.specs.symbols.Words.{data_of}
-use Rattle.dm_words.specs.Contents.{Says, IsRefused}
-use Rattle.dm_words.specs.Symbology.{IsIdentifier}
-use Rattle.dm_words.proofs.Exported.{said_wide}
+use Rattle.dm_symbol.proofs.Names.{◌≡◌, ◌∙◌, length, refl, ap, subst, arith, rules, inl, option_map, SizeEntry, data_of}
+use Rattle.dm_symbol.proofs.Names.{Says, IsRefused, IsIdentifier, said_wide}
 use Rattle.dm_symbol.proofs.SymbolBelow.{data_as_many, data_fits}
-use Rattle.dm_symbol.proofs.ContentReadSteps.{refused_content_result, said_content_result}
-use Rattle.dm_symbol.proofs.ContentReadSteps.{is_content_read}
+use Rattle.dm_symbol.proofs.ContentReadSteps.{refused_content_result, said_content_result, is_content_read}
 use Rattle.dm_symbol.proofs.contents.reading.read_content_to.Goals as goal
 
 pub content_to_as-requires : goal.content_to_as-requires

@@ -1,6 +1,4 @@
-use Rattle.std.proofs.Common.{subst}
-use Rattle.std.specs.Prelude.{option_map}
-use Rattle.dm_symbol.specs.inner.Restoring.{IsLost}
+use Rattle.dm_symbol.proofs.Names.{subst, option_map, IsLost}
 use Rattle.dm_symbol.proofs.ContentReadSteps.{content_border_result, content_lost_result}
 use Rattle.dm_symbol.proofs.contents.reading.restore_symbol_to.Goals as goal
 

@@ -1,7 +1,5 @@
-use Rattle.std.proofs.Common.{◌∙◌, Err, length, refl, sym, ap}
-use Rattle.dm_layout.specs.symbols.Sizes.{entry_for}
+use Rattle.dm_symbol.proofs.Names.{◌∙◌, Err, length, refl, sym, ap, entry_for, padded}
 use Rattle.dm_words.specs.ContentForm.{form_by}
-use Rattle.dm_words.specs.Pads.{padded}
 use Rattle.dm_symbol.proofs.ChosenWords.{fits_no_size}
 use Rattle.dm_symbol.proofs.WrittenWords.{no_words_written}
 use Rattle.dm_symbol.proofs.contents.writing.choose_normal_to.Goals as goal

@@ -1,9 +1,4 @@
-use Rattle.std.proofs.Common.{Err, sym, subst}
-use Rattle.std.specs.Prelude.{IfOk, OnErr}
-use Rattle.dm_words.specs.declared.fault.TooLong.{TooLong}
-use Rattle.dm_words.specs.Contents.{ContentView}
-use Rattle.dm_symbol.specs.declared.contents.writing.Form.{Form}
-use Rattle.dm_symbol.specs.WrittenContent.{AreChosen, IsWrittenAs}
+use Rattle.dm_symbol.proofs.Names.{Err, sym, subst, IfOk, OnErr, TooLong, ContentView, Form, AreChosen, IsWrittenAs}
 use Rattle.dm_symbol.proofs.ChosenWords.{smallest_chosen, smallest_none, smallest_sized, smallest_stands}
 use Rattle.dm_symbol.proofs.contents.writing.choose_words_to.Goals as goal
 

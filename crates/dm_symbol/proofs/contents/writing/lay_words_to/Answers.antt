@@ -1,5 +1,4 @@
-use Rattle.std.proofs.Common.{ap, arith, rules}
-use Rattle.dm_layout.specs.symbols.Sizes.{SizeEntry}
+use Rattle.dm_symbol.proofs.Names.{ap, arith, rules, SizeEntry}
 use Rattle.dm_symbol.proofs.ChosenWords.{chosen_written}
 use Rattle.dm_symbol.proofs.contents.writing.lay_words_to.Goals as goal
 

@@ -1,7 +1,5 @@
-use Rattle.std.proofs.Common.{List, ℕ, arith, ap, length, rules, subst, sym, ◌∙◌}
-use Rattle.dm_words.specs.Contents.{ContentView}
-use Rattle.dm_layout.proofs.symbols.Exported.{size_facts}
-use Rattle.dm_symbol.specs.WrittenContent.{AreChosen}
+use Rattle.dm_symbol.proofs.Names.{List, ℕ, arith, ap, length, rules, subst, sym, ◌∙◌, ContentView, size_facts}
+use Rattle.dm_symbol.proofs.Names.{AreChosen}
 use Rattle.dm_symbol.proofs.PlainSymbols.{form_written_is_plain}
 use Rattle.dm_symbol.proofs.contents.writing.write_content_to.Goals as goal
 

@@ -1,5 +1,4 @@
-use Rattle.dm_words.proofs.Exported.{usual_plain}
-use Rattle.dm_symbol.specs.SymbolBlocks.{first_data}
+use Rattle.dm_symbol.proofs.Names.{usual_plain, first_data}
 use Rattle.dm_symbol.proofs.laws.contents.usual_contents_are_messages.Goals as goal
 
 pub returns : goal.returns

@@ -1,5 +1,4 @@
-use Rattle.std.proofs.Common.{sym, subst}
-use Rattle.dm_code.specs.Erased.{IsNearBut}
+use Rattle.dm_symbol.proofs.Names.{sym, subst, IsNearBut}
 use Rattle.dm_symbol.proofs.SymbolBelow.{near_plain, plain_near}
 use Rattle.dm_symbol.proofs.SymbolDoubt.{erased_by_none, faults_by_none}
 use Rattle.dm_symbol.proofs.laws.symbols.no_doubt_changes_nothing.Goals as goal

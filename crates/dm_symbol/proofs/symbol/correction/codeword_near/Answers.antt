@@ -1,8 +1,5 @@
-use Rattle.std.proofs.Common.{◌≡◌, ◌≢◌, ◌∙◌, length, ap, sym, subst, arith}
-use Rattle.std.specs.Prelude.{IfOk}
-use Rattle.dm_code.specs.Codeword.{IsCodeword, distance}
-use Rattle.dm_layout.specs.symbols.Sizes.{block_check}
-use Rattle.dm_symbol.specs.SymbolBlocks.{block_in}
+use Rattle.dm_symbol.proofs.Names.{◌≡◌, ◌≢◌, ◌∙◌, length, ap, sym, subst, arith, IfOk, IsCodeword, distance}
+use Rattle.dm_symbol.proofs.Names.{block_check, block_in}
 use Rattle.dm_symbol.proofs.Distances.{few_found, found_moves}
 use Rattle.dm_symbol.proofs.SymbolBelow.{block_facts, blocks_are, only_block, only_short}
 use Rattle.dm_symbol.proofs.symbol.correction.codeword_near.Goals as goal

@@ -1,6 +1,4 @@
-use Rattle.std.proofs.Common.{◌≡◌, ◌≢◌, ◌∙◌, length, refl, ap, arith, rules, Ok}
-use Rattle.dm_layout.specs.symbols.Sizes.{block_check}
-use Rattle.dm_symbol.specs.SymbolBlocks.{block_in}
+use Rattle.dm_symbol.proofs.Names.{◌≡◌, ◌≢◌, ◌∙◌, length, refl, ap, arith, rules, Ok, block_check, block_in}
 use Rattle.dm_symbol.proofs.Distances.{IsPut, put_if}
 use Rattle.dm_symbol.proofs.SymbolBelow.{block_lengths, plain_near}
 use Rattle.dm_symbol.proofs.SymbolSteps.{plain_restored}

@@ -1,8 +1,5 @@
-use Rattle.std.proofs.Common.{◌≡◌, ◌∙◌, length, map, refl, sym, ap, arith, rules}
-use Rattle.dm_layout.specs.symbols.Sizes.{SizeEntry, block_check, block_length}
-use Rattle.dm_layout.specs.symbols.Blocks.{block_of}
-use Rattle.dm_symbol.specs.SymbolBlocks.{block_in}
-use Rattle.dm_symbol.specs.inner.Marks.{is_mark}
+use Rattle.dm_symbol.proofs.Names.{◌≡◌, ◌∙◌, length, map, refl, sym, ap, arith, rules, SizeEntry, block_check}
+use Rattle.dm_symbol.proofs.Names.{block_length, block_of, block_in, is_mark}
 use Rattle.dm_symbol.proofs.SymbolBelow.{block_facts}
 use Rattle.dm_symbol.proofs.SymbolSteps.{near_but_moves, marked_restored}
 use Rattle.dm_symbol.proofs.symbol.correction.correct_marked.Goals as goal

@@ -1,6 +1,7 @@
-use Rattle.std.proofs.Common.{◌∙◌, ◌++◌, ◌∷◌, [], length, get_or, map, take, ap, arith, lit<}
-use Rattle.std.proofs.lemmas.List.{length-map, length-take, take_all}
-use Rattle.dm_symbol.specs.inner.Marks.{is_mark}
+use Rattle.dm_symbol.proofs.Names.{◌∙◌, ◌++◌, ◌∷◌, [], length, get_or, map, take, ap, arith, length-map, length-take}
+use Rattle.dm_symbol.proofs.Names.{is_mark}
+use Rattle.std.proofs.Common.{lit<}
+use Rattle.std.proofs.lemmas.List.{take_all}
 use Rattle.dm_symbol.proofs.SymbolSteps.{marks_more}
 use Rattle.dm_symbol.proofs.symbol.correction.marked_places.Goals as goal
 

@@ -1,5 +1,4 @@
-use Rattle.std.proofs.Common.{◌≡◌, map, take}
-use Rattle.dm_symbol.specs.inner.Marks.{is_mark}
+use Rattle.dm_symbol.proofs.Names.{◌≡◌, map, take, is_mark}
 use Rattle.dm_symbol.proofs.symbol.correction.marked_places.Given as goal
 
 abbrev pub invariant-loop-i : goal.invariant-loop-i

@@ -1,6 +1,4 @@
-use Rattle.std.proofs.Common.{◌≡◌, Some, sym, subst}
-use Rattle.dm_symbol.specs.Dealings.{erased_by}
-use Rattle.dm_symbol.specs.inner.Marks.{marked_in}
+use Rattle.dm_symbol.proofs.Names.{◌≡◌, Some, sym, subst, erased_by, marked_in}
 use Rattle.dm_symbol.proofs.Dealings.{erased_by_standard, erased_by_turned}
 use Rattle.dm_symbol.proofs.symbol.correction.marks_for.Goals as goal
 

@@ -1,10 +1,5 @@
-use Rattle.std.proofs.Common.{◌≡◌, ◌∙◌, sym, ap, subst, arith, rules}
-use Rattle.std.specs.Prelude.{IfSome, option_map}
-use Rattle.dm_layout.specs.symbols.Sizes.{SizeEntry}
-use Rattle.dm_symbol.specs.declared.symbol.dealing.Dealing.TheVariants.{Restarted}
-use Rattle.dm_symbol.specs.Dealings.{IsDealtTwoWays, erased_by}
-use Rattle.dm_symbol.specs.SymbolBlocks.{AreOfSize, AreBlocksNear}
-use Rattle.dm_symbol.specs.SymbolReading.{IsFirstLost, block_readings}
+use Rattle.dm_symbol.proofs.Names.{◌≡◌, ◌∙◌, sym, ap, subst, arith, rules, IfSome, option_map, SizeEntry, Restarted}
+use Rattle.dm_symbol.proofs.Names.{IsDealtTwoWays, erased_by, AreOfSize, AreBlocksNear, IsFirstLost, block_readings}
 use Rattle.dm_symbol.proofs.Restarts.{is_restarted, none_restarted}
 use Rattle.dm_symbol.proofs.Restoring.{held_by_modules}
 use Rattle.dm_symbol.proofs.symbol.dealing.restore_restarted.Goals as goal

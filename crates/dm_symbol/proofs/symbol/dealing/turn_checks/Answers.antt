@@ -1,9 +1,6 @@
-use Rattle.std.proofs.Common.{◌≡◌, ◌∙◌, ◌++◌, ◌∷◌, [], ℕ, List, length, get_or, map, take, sym, ap, arith, rules}
-use Rattle.std.specs.List.{range_with_len}
-use Rattle.std.proofs.lemmas.List.FromFn.{length-map-range_with_len, map-range_with_len_more}
-use Rattle.dm_layout.specs.symbols.Sizes.{SizeEntry}
-use Rattle.dm_layout.specs.symbols.Words.{WordsView}
-use Rattle.dm_symbol.specs.inner.Turns.{turned_place}
+use Rattle.dm_symbol.proofs.Names.{◌≡◌, ◌∙◌, ◌++◌, ◌∷◌, [], ℕ, List, length, get_or, map, take, sym, ap, arith, rules}
+use Rattle.dm_symbol.proofs.Names.{range_with_len, length-map-range_with_len, SizeEntry, WordsView, turned_place}
+use Rattle.std.proofs.lemmas.List.FromFn.{map-range_with_len_more}
 use Rattle.dm_symbol.proofs.Dealings.{count, size_is}
 use Rattle.dm_symbol.proofs.Turns.{turned_inside}
 use Rattle.dm_symbol.proofs.symbol.dealing.turn_checks.Goals as goal

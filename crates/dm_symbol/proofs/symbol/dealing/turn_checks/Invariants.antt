@@ -1,6 +1,4 @@
-use Rattle.std.proofs.Common.{◌≡◌, get_or, map}
-use Rattle.std.specs.List.{range_with_len}
-use Rattle.dm_symbol.specs.inner.Turns.{turned_place}
+use Rattle.dm_symbol.proofs.Names.{◌≡◌, get_or, map, range_with_len, turned_place}
 use Rattle.dm_symbol.proofs.symbol.dealing.turn_checks.Given as goal
 
 abbrev pub invariant-loop-i : goal.invariant-loop-i

@@ -1,5 +1,4 @@
-use Rattle.std.proofs.Common.{◌<◌, ℕ, get_or}
-use Rattle.std.specs.Prelude.{IsSome, None}
+use Rattle.dm_symbol.proofs.Names.{◌<◌, ℕ, get_or, IsSome, None}
 use Rattle.dm_symbol.proofs.symbol.inspection.has_lost.Given as goal
 
 abbrev pub invariant-loop-block : goal.invariant-loop-block

@@ -1,11 +1,6 @@
-use Rattle.std.proofs.Common.{◌≡◌, ◌∙◌, ◌<◌, ℕ, length, get_or, refl, sym, ap, subst, rules}
-use Rattle.std.specs.Prelude.{IfSome, IsSome, None, option_map}
-use Rattle.dm_layout.specs.symbols.Words.{WordsView}
-use Rattle.dm_symbol.specs.declared.symbol.dealing.Dealing.TheVariants.{Standard}
-use Rattle.dm_symbol.specs.declared.symbol.inspection.SymbolInspectionIn.{SymbolInspectionIn}
-use Rattle.dm_symbol.specs.Doubt.{erased_in}
-use Rattle.dm_symbol.specs.SymbolBlocks.{AreOfSize}
-use Rattle.dm_symbol.specs.SymbolReading.{AreBlocksMended}
+use Rattle.dm_symbol.proofs.Names.{◌≡◌, ◌∙◌, ◌<◌, ℕ, length, get_or, refl, sym, ap, subst, rules, IfSome, IsSome, None}
+use Rattle.dm_symbol.proofs.Names.{option_map, WordsView, Standard, SymbolInspectionIn, erased_in, AreOfSize}
+use Rattle.dm_symbol.proofs.Names.{AreBlocksMended}
 use Rattle.dm_symbol.proofs.Restarts.{shown_none_lost, shown_some_lost}
 use Rattle.dm_symbol.proofs.Restoring.{held_by_modules}
 use Rattle.dm_symbol.proofs.SymbolBelow.{blocks_are}

@@ -1,6 +1,4 @@
-use Rattle.std.proofs.Common.{◌≡◌, ◌<◌, ℕ, Some}
-use Rattle.dm_symbol.specs.Doubt.{erased_in}
-use Rattle.dm_symbol.specs.inner.Marks.{marked_in}
+use Rattle.dm_symbol.proofs.Names.{◌≡◌, ◌<◌, ℕ, Some, erased_in, marked_in}
 use Rattle.dm_symbol.proofs.SymbolSteps.{mended_moves}
 use Rattle.dm_symbol.proofs.symbol.inspection.mend_doubtful.Goals as goal
 

@@ -1,12 +1,7 @@
-use Rattle.std.proofs.Common.{◌≡◌, ◌≢◌, ◌+◌, ◌<◌, ◌∙◌, ◌++◌, ◌∷◌, [], ℕ, List, length, get_or, sym, ap, subst}
-use Rattle.std.proofs.Common.{below_more, arith, rules}
-use Rattle.std.specs.Prelude.{Option, None, IfSome, option_map}
-use Rattle.std.proofs.lemmas.List.{get_or_append_left, get_or_push, length_push}
-use Rattle.dm_layout.specs.symbols.Sizes.{block_check}
-use Rattle.dm_symbol.specs.declared.symbol.reading.BlockReading.{BlockReading}
-use Rattle.dm_symbol.specs.SymbolBlocks.{AreOfSize, block_in}
-use Rattle.dm_symbol.specs.SymbolReading.{IsBlockRestored}
-use Rattle.dm_symbol.specs.inner.Marks.{marked_in}
+use Rattle.dm_symbol.proofs.Names.{◌≡◌, ◌≢◌, ◌+◌, ◌<◌, ◌∙◌, ◌++◌, ◌∷◌, [], ℕ, List, length, get_or, sym, ap, subst}
+use Rattle.dm_symbol.proofs.Names.{below_more, arith, rules, Option, None, IfSome, option_map, get_or_append_left}
+use Rattle.dm_symbol.proofs.Names.{get_or_push, length_push, block_check, BlockReading, AreOfSize, block_in}
+use Rattle.dm_symbol.proofs.Names.{IsBlockRestored, marked_in}
 use Rattle.dm_symbol.proofs.SymbolBelow.{blocks_are}
 use Rattle.dm_symbol.proofs.symbol.inspection.mend_each.Goals as goal
 

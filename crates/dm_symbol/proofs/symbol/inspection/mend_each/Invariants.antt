@@ -1,9 +1,5 @@
-use Rattle.std.proofs.Common.{◌≡◌, ◌<◌, ◌≤◌, ℕ, length, get_or}
-use Rattle.std.specs.Prelude.{None, option_map}
-use Rattle.dm_layout.specs.symbols.Sizes.{block_check}
-use Rattle.dm_symbol.specs.SymbolBlocks.{AreOfSize, block_in}
-use Rattle.dm_symbol.specs.SymbolReading.{IsBlockRestored}
-use Rattle.dm_symbol.specs.inner.Marks.{marked_in}
+use Rattle.dm_symbol.proofs.Names.{◌≡◌, ◌<◌, ◌≤◌, ℕ, length, get_or, None, option_map, block_check, AreOfSize, block_in}
+use Rattle.dm_symbol.proofs.Names.{IsBlockRestored, marked_in}
 use Rattle.dm_symbol.proofs.symbol.inspection.mend_each.Given as goal
 
 -- The blocks before b are restored, and the others are as they were.

@@ -1,4 +1,4 @@
-use Rattle.std.proofs.Common.{◌≡◌, Some, map, take}
+use Rattle.dm_symbol.proofs.Names.{◌≡◌, Some, map, take}
 use Rattle.dm_symbol.proofs.symbol.inspection.show_blocks.Given as goal
 
 abbrev pub invariant-loop-block : goal.invariant-loop-block

@@ -1,5 +1,4 @@
-use Rattle.std.proofs.Common.{◌∙◌, Some, map, refl, ap}
-use Rattle.dm_symbol.specs.inner.Showing.{IsRestartShown}
+use Rattle.dm_symbol.proofs.Names.{◌∙◌, Some, map, refl, ap, IsRestartShown}
 use Rattle.dm_symbol.proofs.symbol.inspection.show_restarted.Goals as goal
 
 pub returns-then-restore_restarted : goal.returns-then-restore_restarted

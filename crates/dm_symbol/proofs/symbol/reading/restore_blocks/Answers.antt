@@ -1,8 +1,5 @@
-use Rattle.std.proofs.Common.{◌≡◌, ◌∙◌, ◌<◌, ℕ, None, sym, ap, subst}
-use Rattle.std.specs.Prelude.{OnOk, option_map}
-use Rattle.dm_symbol.specs.Dealings.{erased_by}
-use Rattle.dm_symbol.specs.SymbolBlocks.{AreBlocksNear}
-use Rattle.dm_symbol.specs.inner.Marks.{marked_in}
+use Rattle.dm_symbol.proofs.Names.{◌≡◌, ◌∙◌, ◌<◌, ℕ, None, sym, ap, subst, OnOk, option_map, erased_by, AreBlocksNear}
+use Rattle.dm_symbol.proofs.Names.{marked_in}
 use Rattle.dm_symbol.proofs.Dealings.{erased_by_nothing}
 use Rattle.dm_symbol.proofs.SymbolSteps.{near_moves, lost_moves, readings_move, on_ok, if_err}
 use Rattle.dm_symbol.proofs.symbol.reading.restore_blocks.Goals as goal

@@ -1,6 +1,4 @@
-use Rattle.std.proofs.Common.{◌≡◌, ◌∙◌, ◌<◌, ℕ, Some}
-use Rattle.dm_symbol.specs.Dealings.{erased_by}
-use Rattle.dm_symbol.specs.inner.Marks.{marked_in}
+use Rattle.dm_symbol.proofs.Names.{◌≡◌, ◌∙◌, ◌<◌, ℕ, Some, erased_by, marked_in}
 use Rattle.dm_symbol.proofs.SymbolSteps.{near_moves, lost_moves, readings_move, on_ok, if_err}
 use Rattle.dm_symbol.proofs.symbol.reading.restore_doubtful.Goals as goal
 

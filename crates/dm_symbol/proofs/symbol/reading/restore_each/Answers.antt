@@ -1,14 +1,7 @@
-use Rattle.std.proofs.Common.{◌≡◌, ◌≢◌, ◌+◌, ◌<◌, ◌∙◌, ℕ, List, length, get_or, sym, ap, subst}
-use Rattle.std.proofs.Common.{below_more, arith, rules}
-use Rattle.std.specs.Prelude.{Some, IfSome, option_map}
-use Rattle.std.proofs.lemmas.List.{length_push}
+use Rattle.dm_symbol.proofs.Names.{◌≡◌, ◌≢◌, ◌+◌, ◌<◌, ◌∙◌, ℕ, List, length, get_or, sym, ap, subst, below_more, arith}
+use Rattle.dm_symbol.proofs.Names.{rules, Some, IfSome, option_map, length_push, IsNearBut, block_check, BlockReading}
+use Rattle.dm_symbol.proofs.Names.{AreOfSize, HasNearBut, block_in, IsBlockRestored, block_reading, marked_in}
 use Rattle.std.proofs.lemmas.List.FromFn.{fill_by_all}
-use Rattle.dm_code.specs.Erased.{IsNearBut}
-use Rattle.dm_layout.specs.symbols.Sizes.{block_check}
-use Rattle.dm_symbol.specs.declared.symbol.reading.BlockReading.{BlockReading}
-use Rattle.dm_symbol.specs.SymbolBlocks.{AreOfSize, HasNearBut, block_in}
-use Rattle.dm_symbol.specs.SymbolReading.{IsBlockRestored, block_reading}
-use Rattle.dm_symbol.specs.inner.Marks.{marked_in}
 use Rattle.dm_symbol.proofs.SymbolBelow.{blocks_are}
 use Rattle.dm_symbol.proofs.SymbolSteps.{nothing_said, said_more}
 use Rattle.dm_symbol.proofs.symbol.reading.restore_each.Goals as goal

@@ -1,10 +1,5 @@
-use Rattle.std.proofs.Common.{◌≡◌, ◌<◌, ◌≤◌, ℕ, length, get_or}
-use Rattle.std.specs.Prelude.{option_map}
-use Rattle.dm_code.specs.Erased.{IsNearBut}
-use Rattle.dm_layout.specs.symbols.Sizes.{block_check}
-use Rattle.dm_symbol.specs.SymbolBlocks.{AreOfSize, block_in}
-use Rattle.dm_symbol.specs.SymbolReading.{block_reading}
-use Rattle.dm_symbol.specs.inner.Marks.{marked_in}
+use Rattle.dm_symbol.proofs.Names.{◌≡◌, ◌<◌, ◌≤◌, ℕ, length, get_or, option_map, IsNearBut, block_check, AreOfSize}
+use Rattle.dm_symbol.proofs.Names.{block_in, block_reading, marked_in}
 use Rattle.dm_symbol.proofs.SymbolSteps.{nothing_said}
 use Rattle.dm_symbol.proofs.symbol.reading.restore_each.Given as goal
 

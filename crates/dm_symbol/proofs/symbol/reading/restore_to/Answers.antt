@@ -1,6 +1,4 @@
-use Rattle.std.proofs.Common.{◌≤◌, ◌∙◌, refl, sym, arith}
-use Rattle.std.specs.Prelude.{option_map}
-use Rattle.dm_symbol.specs.Doubt.{sure_fault_count}
+use Rattle.dm_symbol.proofs.Names.{◌≤◌, ◌∙◌, refl, sym, arith, option_map, sure_fault_count}
 use Rattle.dm_symbol.proofs.Dealings.{not_wide}
 use Rattle.dm_symbol.proofs.Restoring.{is_lost, is_restored, is_restored_otherwise}
 use Rattle.dm_symbol.proofs.symbol.reading.restore_to.Goals as goal

@@ -1,5 +1,4 @@
-use Rattle.std.proofs.Common.{◌≡◌, ◌∙◌, subst, arith}
-use Rattle.dm_symbol.specs.SymbolBlocks.{first_data}
+use Rattle.dm_symbol.proofs.Names.{◌≡◌, ◌∙◌, subst, arith, first_data}
 use Rattle.dm_symbol.proofs.SymbolBelow.{blocks_are}
 use Rattle.dm_symbol.proofs.SymbolWriteSteps.{one_more_checked}
 use Rattle.dm_symbol.proofs.symbol.writing.complete.Goals as goal

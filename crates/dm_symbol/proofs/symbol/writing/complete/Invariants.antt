@@ -1,7 +1,4 @@
-use Rattle.std.proofs.Common.{◌≡◌, ◌<◌, ℕ}
-use Rattle.dm_code.specs.Codeword.{IsCodeword}
-use Rattle.dm_layout.specs.symbols.Sizes.{block_check}
-use Rattle.dm_symbol.specs.SymbolBlocks.{block_in, first_data}
+use Rattle.dm_symbol.proofs.Names.{◌≡◌, ◌<◌, ℕ, IsCodeword, block_check, block_in, first_data}
 use Rattle.dm_symbol.proofs.symbol.writing.complete.Given as goal
 
 -- The blocks before b are codewords of their Reed-Solomon code.

@@ -1,6 +1,4 @@
-use Rattle.std.proofs.Common.{◌∙◌, ◌++◌, ap, subst, take}
-use Rattle.dm_layout.specs.symbols.Sizes.{block_data}
-use Rattle.dm_symbol.specs.SymbolBlocks.{AreOfSize, block_in}
+use Rattle.dm_symbol.proofs.Names.{◌∙◌, ◌++◌, ap, subst, take, block_data, AreOfSize, block_in}
 use Rattle.dm_symbol.proofs.SymbolWriteSteps.{checks_keep_data}
 use Rattle.dm_symbol.proofs.symbol.writing.complete_block.Goals as goal
 

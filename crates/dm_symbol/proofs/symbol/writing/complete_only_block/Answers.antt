@@ -1,9 +1,5 @@
-use Rattle.std.proofs.Common.{◌≡◌, ◌∙◌, ◌++◌, ◌/◌, ap, arith, length, sym, subst}
-use Rattle.std.proofs.lemmas.List.{length-take-le}
-use Rattle.dm_code.specs.Codeword.{IsCodeword}
-use Rattle.dm_layout.specs.symbols.Sizes.{SizeEntry, block_check}
-use Rattle.dm_layout.specs.symbols.Words.{WordsView, data_of}
-use Rattle.dm_symbol.specs.SymbolBlocks.{AreOfSize}
+use Rattle.dm_symbol.proofs.Names.{◌≡◌, ◌∙◌, ◌++◌, ◌/◌, ap, arith, length, sym, subst, length-take-le, IsCodeword}
+use Rattle.dm_symbol.proofs.Names.{SizeEntry, block_check, WordsView, data_of, AreOfSize}
 use Rattle.dm_symbol.proofs.SymbolBelow.{only_block, only_short}
 use Rattle.dm_symbol.proofs.symbol.writing.complete_only_block.Goals as goal
 

@@ -1,6 +1,4 @@
-use Rattle.std.proofs.Common.{◌≡◌, ◌∙◌, ap, subst}
-use Rattle.dm_layout.specs.symbols.Words.{WordsView}
-use Rattle.dm_symbol.specs.SymbolBlocks.{AreCodewordsOf}
+use Rattle.dm_symbol.proofs.Names.{◌≡◌, ◌∙◌, ap, subst, WordsView, AreCodewordsOf}
 use Rattle.dm_symbol.proofs.symbol.writing.complete_with.Goals as goal
 
 pub returns-clause-checked : goal.returns-clause-checked
