@@ -1,7 +1,7 @@
 -- Data codewords that are chosen for a content in a form: the symbol in which they are laid is the one in which it is
 -- written.
 use Rattle.dm_symbol.proofs.Names.{◌≡◌, ◌∙◌, ◌<◌, ℕ, List, length, Some, None, Option, Result, Ok, Err, refl, ap, arith}
-use Rattle.dm_symbol.proofs.Names.{IfOk, IsSome, OnErr, false≢true, SizeChoice, SizeEntry, IsSize, entry_for}
+use Rattle.dm_symbol.proofs.Names.{IfOk, OnErr, IsSome, false≢true, SizeChoice, SizeEntry, IsSize, entry_for}
 use Rattle.dm_symbol.proofs.Names.{SymbolView, WordsView, IsLaid, size_facts, Extent, TooLong, Item, ContentView}
 use Rattle.dm_symbol.proofs.Names.{content_form, Form, Profiled, Smallest, IsSmallestContentWritten, AreCodewordsOf}
 use Rattle.dm_symbol.proofs.Names.{first_data, AreChosen, IsWrittenAs, FitChoice}

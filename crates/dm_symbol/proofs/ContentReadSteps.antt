@@ -3,11 +3,11 @@
 use Rattle.dm_symbol.proofs.Names.{◌≡◌, ◌↔◌, ℕ, ◌<◌, List, Option, Result, Ok, Err, refl, sym, ap, subst, ◌∙◌, Extent}
 use Rattle.dm_symbol.proofs.Names.{ContentView, Says, IsRefused, SymbolView, WordsView, data_of, ContentReadFault}
 use Rattle.dm_symbol.proofs.Names.{BlockReading, Dealing, sure_fault_count, first_data, readings_by, ContentReadingView}
-use Rattle.dm_symbol.proofs.Names.{ContentReadResult, ReadsContent, IsIdentifier, content_reading_of, Border, Block}
+use Rattle.dm_symbol.proofs.Names.{ContentReadResult, ReadsContent, content_reading_of, IsIdentifier, Border, Block}
 use Rattle.dm_symbol.proofs.Names.{IsRestored, IsLost}
+use Rattle.dm_symbol.specs.ContentReading.{IsContentRead}
 use Rattle.dm_words.specs.declared.contents.fault.ContentFault.{ContentFault}
 use Rattle.dm_symbol.specs.declared.contents.ContentReadFault.TheVariants as fault
-use Rattle.dm_symbol.specs.ContentReading.{IsContentRead}
 use Rattle.dm_symbol.proofs.ContentReadings.{one_content_result, content_by_result, reads_content_by_result}
 use Rattle.dm_symbol.proofs.Restoring.{restored_data}
 

@@ -6,9 +6,9 @@ use Rattle.dm_symbol.proofs.Names.{SymbolView, IsSymbol, ContentReadFault, Deali
 use Rattle.dm_symbol.proofs.Names.{AreRestored, readings_by, ContentReadingView, ReadsContent, ContentReadResult}
 use Rattle.dm_symbol.proofs.Names.{content_reading_of}
 use Rattle.dm_words.proofs.Exported.{said_is_content, said_not_refused, one_content, refused_is_one, identifier_is_one}
+use Rattle.dm_symbol.specs.ContentReading.{IsReadAsContent}
 use Rattle.dm_layout.proofs.symbols.Exported.{some_held}
 use Rattle.dm_symbol.specs.declared.contents.ContentReadFault.TheVariants as fault
-use Rattle.dm_symbol.specs.ContentReading.{IsReadAsContent}
 use Rattle.dm_symbol.proofs.RestoredOrLost.{restored_or_lost}
 use Rattle.dm_symbol.proofs.Restoring.{held_by_modules}
 use Rattle.dm_symbol.proofs.SymbolReadings.{data_are_bytes, lost_is_one, none_lost, restored_is_one, restored_wide}

@@ -1,15 +1,14 @@
 -- The two dealings of 144 x 144: what is dealt otherwise is turned, and what is near by a dealing is one.
-use Rattle.dm_symbol.proofs.Names.{◌≡◌, ℕ, ◌+◌, ◌-◌, ◌*◌, ◌/◌, ◌%◌, ◌<◌, Bool, false, nat_eq, List, length, get_or, map}
+use Rattle.dm_symbol.proofs.Names.{◌≡◌, ℕ, ◌+◌, ◌-◌, ◌*◌, ◌/◌, ◌%◌, ◌<◌, false, nat_eq, List, length, get_or, map}
 use Rattle.dm_symbol.proofs.Names.{Option, Some, None, inl, inr, refl, sym, ap, subst, ◌∙◌, arith, cases_lt, cond_above}
-use Rattle.dm_symbol.proofs.Names.{cond_below, ext_get_or, length-map, get_or-map-range_with_len}
-use Rattle.dm_symbol.proofs.Names.{length-map-range_with_len, Extent, Usual, Wide, erased_places, erased_within}
-use Rattle.dm_symbol.proofs.Names.{SizeEntry, IsSize, entry_of, codeword_count, block_length, SymbolView, WordsView}
-use Rattle.dm_symbol.proofs.Names.{places_of_block, Holds, Dealing, Standard, Restarted, is_erased, IsDealtTwoWays}
-use Rattle.dm_symbol.proofs.Names.{restarted_place, dealt, erased_by, AreOfSize, is_mark, marked_in, turned}
-use Rattle.dm_symbol.proofs.Names.{turned_place}
+use Rattle.dm_symbol.proofs.Names.{cond_below, ext_get_or, get_or-map-range_with_len, length-map-range_with_len, Extent}
+use Rattle.dm_symbol.proofs.Names.{Usual, Wide, erased_places, SizeEntry, IsSize, entry_of, codeword_count, SymbolView}
+use Rattle.dm_symbol.proofs.Names.{WordsView, places_of_block, Holds, Dealing, Standard, Restarted, is_erased}
+use Rattle.dm_symbol.proofs.Names.{IsDealtTwoWays, restarted_place, dealt, erased_by, AreOfSize, is_mark, marked_in}
+use Rattle.dm_symbol.proofs.Names.{turned, turned_place}
 use Rattle.dm_layout.specs.symbols.Sizes.{size_table, entry_with}
-use Rattle.dm_symbol.proofs.SymbolDoubt.{erased_by_held, erased_by_none, erased_inside, erased_nowhere}
-use Rattle.dm_symbol.proofs.SymbolDoubt.{erased_where_marked, map_twice, places_count, same_filtered}
+use Rattle.dm_symbol.proofs.SymbolDoubt.{erased_by_held, erased_by_none, erased_nowhere, erased_where_marked, map_twice}
+use Rattle.dm_symbol.proofs.SymbolDoubt.{same_filtered}
 use Rattle.dm_symbol.proofs.Turns.{at_turned, inside_1558, length-turned, place_of, turned_again, turned_back}
 use Rattle.dm_symbol.proofs.Turns.{turned_bytes}
 
@@ -122,17 +121,6 @@ undealt Restarted size words two h =
     (turned 2 words, turned_of_size size (two refl) 2 words h, dealt_back size (two refl) words h)
 
 -- ---- erased places
-
--- The erased places of a block lie in it, by either dealing.
-pub erased_by_inside : (d : Dealing) (size : SizeEntry) (doubtful : Option SymbolView) (b i : ℕ) → b < size.blocks
-    → i < length (erased_by d size doubtful b) → get_or (erased_by d size doubtful b) i 0 < block_length size b
-erased_by_inside Standard size doubtful b i hb hi = erased_inside size doubtful b i hb hi
-erased_by_inside Restarted size doubtful b i hb hi =
-    let places = places_of_block size.blocks b (codeword_count size) in
-    let flag : ℕ → Bool = λ j. is_erased size doubtful (restarted_place size j) in
-    let long : length (map flag places) ≡ block_length size b =
-    length-map places flag ∙ places_count size.blocks b (codeword_count size) hb in
-    erased_within 0 (block_length size b) (map flag places) (omega (arith, long)) i 0 hi
 
 -- Where no module is doubtful, none is.
 pub erased_by_nothing : (d : Dealing) (size : SizeEntry) (b : ℕ) → marked_in size None b ≡ erased_by d size None b

@@ -1,12 +1,12 @@
 -- By the other dealing a block of 144 x 144 has its data codewords and then its check codewords, both dealt from the
 -- first block.
 use Rattle.dm_symbol.proofs.Names.{◌≡◌, ℕ, zero, suc, ◌+◌, ◌%◌, ◌<◌, List, ◌++◌, length, get_or, map, take, nat_eq}
-use Rattle.dm_symbol.proofs.Names.{Option, refl, sym, ap, subst, ◌∙◌, arith, get_or-take, length-take-le, map-append}
+use Rattle.dm_symbol.proofs.Names.{Option, refl, sym, ap, subst, ◌∙◌, arith, get_or-take, length-take-le}
 use Rattle.dm_symbol.proofs.Names.{get_or-map-range_with_len, length-map-range_with_len, erased_places, SizeEntry}
 use Rattle.dm_symbol.proofs.Names.{IsSize, codeword_count, SymbolView, places_of_block, block_of, Restarted, is_erased}
 use Rattle.dm_symbol.proofs.Names.{IsDealtTwoWays, restarted_place, dealt, erased_by, AreOfSize, block_in, first_data}
 use Rattle.std.proofs.Common.{drop}
-use Rattle.std.proofs.lemmas.List.{get_or-drop, length-drop}
+use Rattle.std.proofs.lemmas.List.{map-append, get_or-drop, length-drop}
 use Rattle.std.proofs.lemmas.Simd.{map-map}
 use Rattle.dm_symbol.proofs.Dealings.{largest, size_is}
 use Rattle.dm_symbol.proofs.SymbolDoubt.{same_filtered}

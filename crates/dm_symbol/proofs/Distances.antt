@@ -29,15 +29,6 @@ near_itself k word code = record { codeword = code; long = refl; close = omega (
 
 -- ---- what is found near a word
 
--- What is found near a word, or that nothing is near it, is also true of an equal word.
-pub found_moves : {E : Type 0} (r : Result ℕ E) (found : List ℕ) (k l : ℕ) (w v : List ℕ) → k ≡ l → w ≡ v
-    → MatchResult r (λ n. n ≢ 0 → IsNear k w found) (λ _. (c : List ℕ) → IsNear k w c → ⊥)
-    → MatchResult r (λ n. n ≢ 0 → IsNear l v found) (λ _. (c : List ℕ) → IsNear l v c → ⊥)
-found_moves (Ok n) found k l w v ek ew h =
-    λ some. subst (λ x. IsNear x v found) ek (subst (λ x. IsNear k x found) ew (h some))
-found_moves (Err e) found k l w v ek ew h =
-    λ c n. h c (subst (λ x. IsNear x w c) (sym ek) (subst (λ x. IsNear l x c) (sym ew) n))
-
 -- A word is corrected at no more places than half as many as it has check codewords.
 pub few_found : {E : Type 0} (r : Result ℕ E) (found : List ℕ) (k : ℕ) (w : List ℕ)
     → MatchResult r (λ n. n ≢ 0 → IsNear k w found) (λ _. (c : List ℕ) → IsNear k w c → ⊥)

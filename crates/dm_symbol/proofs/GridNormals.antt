@@ -6,9 +6,9 @@ use Rattle.dm_symbol.proofs.Names.{padded, identifier_is_there, said_wide, norma
 use Rattle.dm_symbol.proofs.Names.{SymbolView, IsSymbol, SizeRow, row_for_words, symbol_size, most_grid_data, row_facts}
 use Rattle.dm_symbol.proofs.Names.{GridView, IsGrid, symbol_modules, Reading, ReadFault, BlockReading, IsNormalGrid}
 use Rattle.dm_symbol.proofs.Names.{IsNormalOfContent, Reads, ReadResult, reading_of, IsNormalOrFault, nothing_wrong}
+use Rattle.dm_symbol.specs.NormalGrid.{FitsSomeSize, IsWritten}
 use Rattle.dm_symbol.specs.declared.normalising.NormalFault.{NormalFault}
 use Rattle.dm_symbol.specs.declared.normalising.NormalFault.TheVariants as fault
-use Rattle.dm_symbol.specs.NormalGrid.{FitsSomeSize, IsWritten}
 use Rattle.dm_symbol.specs.Normal.{HasNormal, HasNoNormal, NormalResult, IsNormalised}
 use Rattle.dm_symbol.proofs.Grids.{no_fault, one_given, one_message, read_is_message, read_result_is_there, items_are}
 use Rattle.dm_symbol.proofs.Grids.{reads_by_result, same_grid}
@@ -150,18 +150,6 @@ normal_is_read p m grid limit result h n =
 
 -- ---- normalising
 
--- Two equal faults say the same.
-err_is : (a b : ReadFault) → ◌≡◌ {A = Result Reading ReadFault} (Err a) (Err b) → a ≡ b
-err_is a b e = cc
-
--- Two equal faults of reading say the same.
-read_is : (a b : ReadFault) → fault.Read a ≡ fault.Read b → a ≡ b
-read_is a b e = cc
-
--- A fault of reading isn't that the message is too long.
-read_no_too_long : (a : ReadFault) → fault.Read a ≡ fault.TooLong → ⊥
-read_no_too_long a e = cc
-
 module _ (p : Profile) (grid : GridView) (limit : ℕ) where
   -- This has the grid as its normal grid.
   abbrev has : GridView → Type 0
@@ -182,8 +170,8 @@ module _ (p : Profile) (grid : GridView) (limit : ℕ) where
   -- A grid has one normal grid, or none, or is refused when it is read.
   apart : AreApart fault.Read fault.TooLong has has_none refused
   apart = record {
-    same_read = λ why other e. read_is why other e;
-    read_no_long = λ why e. read_no_too_long why e;
+    same_read = λ why other e. cc;
+    read_no_long = λ why e. cc;
     one = λ n o hn ho. normal_grid_is_one p ho.message n o
         (subst (λ m. IsNormalGrid p m n) (one_read hn.message ho.message hn.read ho.read) hn.normal_grid)
         ho.normal_grid;
@@ -191,7 +179,7 @@ module _ (p : Profile) (grid : GridView) (limit : ℕ) where
         (one_read h.message none.message h.read none.read) (normal_grid_fits p h.message n h.normal_grid));
     has_or_refused = λ n why h a. no_fault grid limit h.message why h.read a;
     none_or_refused = λ why h a. no_fault grid limit h.message why h.read a;
-    one_refused = λ why other a b. err_is why other (one_given grid limit (Err why) (Err other) a b);
+    one_refused = λ why other a b. let e = one_given grid limit (Err why) (Err other) a b in cc;
   }
 
   -- A grid has at most one result of normalising.

@@ -8,13 +8,13 @@ use Rattle.dm_symbol.proofs.Names.{ContentReadFault, Standard, Restarted, BlockR
 use Rattle.dm_symbol.proofs.Names.{IsDealtTwoWays, Reads, ReadResult, IsRead, reading_of, block_in, first_data}
 use Rattle.dm_symbol.proofs.Names.{block_reading, ContentReadingView, ReadsContent, ContentReadResult}
 use Rattle.dm_symbol.proofs.Names.{content_reading_of}
-use Rattle.dm_words.specs.declared.contents.fault.ContentFault.TheVariants as words_fault
 use Rattle.dm_words.proofs.Exported.{spelled_is_few, usual_word}
 use Rattle.dm_layout.proofs.Exported.{is_modules, is_size, side_fits}
+use Rattle.dm_symbol.specs.Reading.{IsGridResult, IsReadAs, content_fault}
+use Rattle.dm_words.specs.declared.contents.fault.ContentFault.TheVariants as words_fault
 use Rattle.dm_layout.proofs.symbols.Exported.{same_size}
 use Rattle.dm_symbol.specs.declared.reading.ReadFault.TheVariants as fault
 use Rattle.dm_symbol.specs.declared.contents.ContentReadFault.TheVariants as content
-use Rattle.dm_symbol.specs.Reading.{IsGridResult, IsReadAs, content_fault}
 use Rattle.dm_symbol.specs.SymbolLaws.{AreModulesOf, HasResultOfGrid, none_erased}
 use Rattle.dm_symbol.proofs.ContentReadings.{one_content_result, one_symbol_content, read_content_right}
 use Rattle.dm_symbol.proofs.ContentReadings.{content_no_fault, reads_content_by_result, some_content_result}
@@ -109,27 +109,18 @@ grid_fault_back (fault.Words why) other = refl
 same_fault : (f g : ReadFault) → content_fault f ≡ content_fault g → f ≡ g
 same_fault f g e = sym (grid_fault_back f f) ∙ ap (grid_fault f) e ∙ grid_fault_back g f
 
--- Two equal faults say the same.
-err_is : (a b : ContentReadFault) → ◌≡◌ {A = Result ContentReadingView ContentReadFault} (Err a) (Err b) → a ≡ b
-err_is a b e = cc
-
--- A fault isn't a reading.
-err_no_ok : (why : ContentReadFault) (reading : ContentReadingView)
-    → ◌≡◌ {A = Result ContentReadingView ContentReadFault} (Err why) (Ok reading) → ⊥
-err_no_ok why reading e = cc
-
 -- A symbol that is refused in the usual extent is so with a fault of a grid.
 pub usual_fault : (modules : SymbolView) (doubtful : Option SymbolView) (limit : ℕ) (why : ContentReadFault)
     → ContentReadResult Usual modules doubtful limit (Err why) → (f : ReadFault) × (why ≡ content_fault f)
 usual_fault modules doubtful limit why (ContentReadResult.border more e) =
-    (fault.Border (sure_fault_count modules doubtful), err_is why _ e)
+    (fault.Border (sure_fault_count modules doubtful), cc)
 usual_fault modules doubtful limit why (ContentReadResult.block words index few lost e) =
-    (fault.Block index, err_is why _ e)
+    (fault.Block index, cc)
 usual_fault modules doubtful limit why (ContentReadResult.words d words codewords of_words few h refused e) =
     let f = usual_word (first_data modules.size codewords) of_words refused in
-    (fault.Words f.0, err_is why _ e ∙ ap (λ w. content.Words w) f.1)
+    (fault.Words f.0, let is = f.1 in cc)
 usual_fault modules doubtful limit why (ContentReadResult.content d words codewords l n few h said is e) =
-    absurd (err_no_ok why _ e)
+    cc
 
 -- ---- results
 
@@ -272,11 +263,11 @@ made_of k reading =
 made_of_told : (modules : SymbolView) (limit : ℕ) (reading : ContentReadingView) → (IsDealtTwoWays modules.size → ⊥)
     → ContentReadResult Usual modules None limit (Ok reading) → made_of (block_check modules.size) reading ≡ reading
 unfolding made_of
-made_of_told modules limit reading one (ContentReadResult.border more e) = absurd (err_no_ok _ reading (sym e))
+made_of_told modules limit reading one (ContentReadResult.border more e) = cc
 made_of_told modules limit reading one (ContentReadResult.block words index few lost e) =
-    absurd (err_no_ok _ reading (sym e))
+    cc
 made_of_told modules limit reading one (ContentReadResult.words d words codewords why few h refused e) =
-    absurd (err_no_ok _ reading (sym e))
+    cc
 made_of_told modules limit reading one (ContentReadResult.content Restarted words codewords l n few h said is e) =
     absurd (one h.tried.1)
 made_of_told modules limit reading one (ContentReadResult.content Standard words codewords l n few h said is e) =

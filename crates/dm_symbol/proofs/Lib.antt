@@ -1,5 +1,4 @@
 mod Names
-mod Below
 mod Distances
 mod Counts
 mod Choosing

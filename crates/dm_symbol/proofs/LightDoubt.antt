@@ -1,15 +1,15 @@
 -- Doubtful modules that are all light change nothing.
-use Rattle.dm_symbol.proofs.Names.{◌≡◌, ℕ, zero, suc, ◌+◌, ◌*◌, ◌<◌, ◌≤◌, Bool, false, not, cond, ◌&&◌, List, [], ◌∷◌}
-use Rattle.dm_symbol.proofs.Names.{length, get_or, map, Option, Some, None, refl, sym, ap, subst, ◌∙◌, arith, sum_by}
-use Rattle.dm_symbol.proofs.Names.{count_by, range_with_len, sum_by-cons, place, Extent, Wide, SizeEntry, mapping_rows}
-use Rattle.dm_symbol.proofs.Names.{mapping_columns, codeword_count, SymbolView, is_fault, places_of_block, Dealing}
-use Rattle.dm_symbol.proofs.Names.{Standard, Restarted, SymbolInspectionIn, is_doubtful_bit, is_erased, erased_in}
-use Rattle.dm_symbol.proofs.Names.{is_sure_fault, sure_fault_count, dealt, erased_by, restarted_place, IsTried}
-use Rattle.dm_symbol.proofs.Names.{AreRestored, AreLost, IsFirstLost, readings_by, IsSymbolInspection, AreLight}
-use Rattle.dm_place.specs.Border.{symbol_line}
+use Rattle.dm_symbol.proofs.Names.{◌≡◌, ℕ, zero, suc, ◌+◌, ◌*◌, ◌<◌, ◌≤◌, Bool, false, not, ◌&&◌, List, [], ◌∷◌, length}
+use Rattle.dm_symbol.proofs.Names.{get_or, map, Option, Some, None, refl, sym, ap, subst, ◌∙◌, arith, range_with_len}
+use Rattle.dm_symbol.proofs.Names.{place, Extent, Wide, SizeEntry, mapping_rows, mapping_columns, codeword_count}
+use Rattle.dm_symbol.proofs.Names.{SymbolView, is_fault, places_of_block, Dealing, Standard, Restarted}
+use Rattle.dm_symbol.proofs.Names.{SymbolInspectionIn, is_doubtful_bit, is_erased, erased_in, is_sure_fault}
+use Rattle.dm_symbol.proofs.Names.{sure_fault_count, dealt, erased_by, restarted_place, IsTried, AreRestored, AreLost}
+use Rattle.dm_symbol.proofs.Names.{IsFirstLost, readings_by, IsSymbolInspection, AreLight}
+use Rattle.dm_symbol.proofs.SymbolDoubt.{same_counts, erased_nowhere, same_any}
 use Rattle.dm_layout.specs.symbols.Symbols.{rows_of}
 use Rattle.dm_symbol.specs.Doubt.{is_doubtful}
-use Rattle.dm_symbol.proofs.SymbolDoubt.{erased_nowhere, same_any}
+use Rattle.dm_place.specs.Border.{symbol_line}
 use Rattle.dm_symbol.proofs.Dealings.{erased_by_nothing}
 use Rattle.dm_symbol.proofs.SymbolSteps.{near_moves, lost_moves, mended_moves, readings_move}
 
@@ -17,31 +17,9 @@ use Rattle.dm_symbol.proofs.SymbolSteps.{near_moves, lost_moves, mended_moves, r
 same_sure_faults : (modules : SymbolView) (p q : Option SymbolView)
     → ((row column : ℕ) → is_doubtful p row column ≡ is_doubtful q row column)
     → sure_fault_count modules p ≡ sure_fault_count modules q
-same_sure_faults modules p q same = rows 0 modules.size.rows
-  where
-    line : (row a n : ℕ) → count_by (is_sure_fault modules p row) (range_with_len a n)
-        ≡ count_by (is_sure_fault modules q row) (range_with_len a n)
-    line row a zero = refl
-    line row a (suc n) =
-        sum_by-cons (λ c. cond (is_sure_fault modules p row c) 1 0) a (range_with_len (a + 1) n)
-        ∙ ap (λ x. cond (is_fault modules row a && not x) 1 0
-        + count_by (is_sure_fault modules p row) (range_with_len (a + 1) n)) (same row a)
-        ∙ ap (λ x. cond (is_sure_fault modules q row a) 1 0 + x) (line row (a + 1) n)
-        ∙ sym (sum_by-cons (λ c. cond (is_sure_fault modules q row c) 1 0) a (range_with_len (a + 1) n))
-
-    rows : (a n : ℕ)
-        → sum_by (λ row. count_by (is_sure_fault modules p row) (range_with_len 0 modules.size.columns))
-        (range_with_len a n)
-        ≡ sum_by (λ row. count_by (is_sure_fault modules q row) (range_with_len 0 modules.size.columns))
-        (range_with_len a n)
-    rows a zero = refl
-    rows a (suc n) =
-        let one = λ (row : ℕ). count_by (is_sure_fault modules p row) (range_with_len 0 modules.size.columns) in
-        let other = λ (row : ℕ). count_by (is_sure_fault modules q row) (range_with_len 0 modules.size.columns) in
-        sum_by-cons one a (range_with_len (a + 1) n)
-        ∙ ap (λ x. x + sum_by one (range_with_len (a + 1) n)) (line a 0 modules.size.columns)
-        ∙ ap (λ x. other a + x) (rows (a + 1) n)
-        ∙ sym (sum_by-cons other a (range_with_len (a + 1) n))
+same_sure_faults modules p q same =
+    same_counts (is_sure_fault modules p) (is_sure_fault modules q) modules.size.columns 0 modules.size.rows
+    (λ row column. ap (λ x. is_fault modules row column && not x) (same row column))
 
 -- A list of colours of which none is dark gives light at each place, also past its end.
 light_list : (xs : List Bool) → ((k : ℕ) → k < length xs → get_or xs k false ≡ false) → (k : ℕ)

@@ -1,9 +1,10 @@
 -- Where the names come from that several proofs of this crate use: std, the crates below, and the definitions.
-pub use Rattle.dm_code.proofs.Exported.{differs_le, differs_same, erased_within}
+pub use Rattle.dm_code.proofs.Exported.{codeword_bytes, differs_le, differs_same, near_but_none, near_none_but}
 pub use Rattle.dm_code.specs.Codeword.{IsCodeword, IsNear, distance}
 pub use Rattle.dm_code.specs.Erased.{IsNearBut, distance_but, erased_places}
 pub use Rattle.dm_layout.proofs.Exported.{row_facts, same_row}
-pub use Rattle.dm_layout.proofs.symbols.Exported.{at_found, blocks_make_words, same_data_by_blocks, size_facts}
+pub use Rattle.dm_layout.proofs.symbols.Exported.{at_found, blocks_make_words, length_of_block, same_data_by_blocks}
+pub use Rattle.dm_layout.proofs.symbols.Exported.{size_facts, word_of_block}
 pub use Rattle.dm_layout.specs.Border.{border_fault_count}
 pub use Rattle.dm_layout.specs.Grid.{GridView, IsGrid, symbol_modules}
 pub use Rattle.dm_layout.specs.Sizes.{IsRow, SizeRow, most_grid_data, row_for_words, row_with_side, symbol_size}
@@ -72,10 +73,10 @@ pub use Rattle.std.proofs.Math.Seq.{take-append_seam}
 pub use Rattle.std.proofs.lemmas.Bool.{agree_below_at, and_from, and_parts, cases_Bool, cases_eq, cases_lt, cond_above}
 pub use Rattle.std.proofs.lemmas.Bool.{cond_below, eq-eqb, eqb-true, false≢true}
 pub use Rattle.std.proofs.lemmas.List.{ext_get_or, get_or-take, get_or_append_left, get_or_push, length-append}
-pub use Rattle.std.proofs.lemmas.List.{length-map, length-take, length-take-le, length_push, map-append}
+pub use Rattle.std.proofs.lemmas.List.{length-map, length-take, length-take-le, length_push}
 pub use Rattle.std.proofs.lemmas.List.Elements.{All-from_get_or, All-get_or, All-take}
 pub use Rattle.std.proofs.lemmas.List.FromFn.{get_or-map-range_with_len, length-map-range_with_len}
 pub use Rattle.std.proofs.lemmas.List.FromFn.{length-range_with_len}
 pub use Rattle.std.proofs.lemmas.List.Sums.{sum_by-cons}
 pub use Rattle.std.specs.List.{All, AllByRecursion, range_with_len}
-pub use Rattle.std.specs.Prelude.{IfOk, IfSome, OnErr, OnOk, count_by, find, option_map, sum_by}
+pub use Rattle.std.specs.Prelude.{IfOk, OnErr, OnOk, count_by, find, option_map, sum_by}

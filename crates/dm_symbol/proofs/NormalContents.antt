@@ -4,11 +4,11 @@ use Rattle.dm_symbol.proofs.Names.{Extent, Wide, Item, Profile, ContentView, as_
 use Rattle.dm_symbol.proofs.Names.{entry_for, SymbolView, IsSymbol, ContentReadFault, ContentNormalFault, first_data}
 use Rattle.dm_symbol.proofs.Names.{ContentReadingView, ReadsContent, ContentReadResult, IsNormalOfContent}
 use Rattle.dm_symbol.proofs.Names.{NormalContentResult, IsNormalGiven, IsNormalOrFault}
+use Rattle.dm_symbol.specs.ContentNormal.{HasNormalContent, HasNoNormalContent}
 use Rattle.dm_words.specs.Macros.{macro_text}
 use Rattle.dm_words.proofs.Exported.{macro_short}
 use Rattle.dm_symbol.specs.declared.contents.ContentNormalFault.TheVariants.{Read, TooLong}
 use Rattle.dm_symbol.specs.ContentLaws.{ReadsMacro}
-use Rattle.dm_symbol.specs.ContentNormal.{HasNormalContent, HasNoNormalContent}
 use Rattle.dm_symbol.proofs.NormalOutcomes.{AreApart, one_normalised, is_normal_given}
 use Rattle.dm_symbol.proofs.GridNormals.{fits_or_not}
 use Rattle.dm_symbol.proofs.ContentReadings.{one_symbol_content, read_content_right, one_content_result}

@@ -7,12 +7,12 @@ use Rattle.dm_symbol.proofs.Names.{IsDealtTwoWays, dealt, erased_by, AreOfSize, 
 use Rattle.dm_symbol.proofs.Names.{block_in, AreRestoredBy, AreRestored, IsFirstLost, IsBlockRestored, AreBlocksMended}
 use Rattle.dm_symbol.proofs.Names.{block_reading, block_readings, IsSymbolInspection, IsRestarted, IsRestartShown}
 use Rattle.dm_symbol.proofs.Names.{turned}
+use Rattle.dm_symbol.proofs.Restoring.{held_by_modules, readings_count}
 use Rattle.std.proofs.lemmas.List.{get_or-map}
 use Rattle.dm_symbol.proofs.Dealings.{dealt_back, dealt_is_turned, not_restarted, turned_of_size}
 use Rattle.dm_symbol.proofs.SymbolBelow.{held_is_one}
 use Rattle.dm_symbol.proofs.RestoredOrLost.{near_or_first_lost}
 use Rattle.dm_symbol.proofs.SymbolSteps.{nothing_said}
-use Rattle.dm_symbol.proofs.Restoring.{readings_count}
 
 -- ---- restoring
 
@@ -71,24 +71,32 @@ none_is_lost : (k : ℕ) (erased block mended : List ℕ) (said : Option BlockRe
 none_is_lost k erased block mended said none h =
     (subst (IsBlockRestored k erased block mended) none h).0
 
+-- An inspection in which blocks are mended by the standard's dealing.
+pub record IsMended {room : ℕ} (modules : SymbolView) (doubtful : Option SymbolView) (i : SymbolInspectionIn room)
+    : Type 0 where
+  pub held : Holds modules i.held
+  pub standard : i.dealing ≡ Standard
+  pub same_size : i.mended.size ≡ modules.size
+  pub of_size : AreOfSize modules.size i.mended.list
+  pub count : length i.blocks.items ≡ modules.size.blocks
+  pub mended : AreBlocksMended modules.size (erased_in modules.size doubtful) i.held.list i.mended.list i.blocks.items
+  pub border : i.border_faults ≡ sure_fault_count modules doubtful
+
 module _ {room : ℕ} (modules : SymbolView) (doubtful : Option SymbolView) (i : SymbolInspectionIn room)
-    (held : Holds modules i.held) (are_held : AreHeldBy modules i.held.list) (standard : i.dealing ≡ Standard)
-    (same_size : i.mended.size ≡ modules.size) (of_size : AreOfSize modules.size i.mended.list)
-    (count : length i.blocks.items ≡ modules.size.blocks)
-    (mended : AreBlocksMended modules.size (erased_in modules.size doubtful) i.held.list i.mended.list i.blocks.items)
-    (border : i.border_faults ≡ sure_fault_count modules doubtful) where
+    (is : IsMended modules doubtful i) where
   -- What is mended by the standard's dealing is shown, where the other restores nothing.
   shown_by_standard : ((codewords : List ℕ) → AreRestored Wide modules doubtful Restarted i.held.list codewords → ⊥)
       → IsSymbolInspection modules doubtful i
   shown_by_standard none = record {
-    held = held;
-    same_size = same_size;
-    of_size = of_size;
-    dealing = (λ e. not_restarted (sym standard ∙ e), λ some. absurd (none some.0 some.1));
-    count = count;
+    held = is.held;
+    same_size = is.same_size;
+    of_size = is.of_size;
+    dealing = (λ e. not_restarted (sym is.standard ∙ e), λ some. absurd (none some.0 some.1));
+    count = is.count;
     mended = subst (λ d. AreBlocksMended modules.size (erased_by d modules.size doubtful)
-        (dealt d modules.size i.held.list) (dealt d modules.size i.mended.list) i.blocks.items) (sym standard) mended;
-    border = border;
+        (dealt d modules.size i.held.list) (dealt d modules.size i.mended.list) i.blocks.items) (sym is.standard)
+        is.mended;
+    border = is.border;
   }
 
   -- So it is where no block is lost.
@@ -99,7 +107,7 @@ module _ {room : ℕ} (modules : SymbolView) (doubtful : Option SymbolView) (i :
       let first = r.tried.3 in
       first.lost (said_is_near (block_check modules.size) (erased_in modules.size doubtful b)
       (block_in modules.size i.held.list b) (block_in modules.size i.mended.list b) (get_or i.blocks.items b None)
-      (each b (omega (arith, first.in_symbol, count))) (mended b first.in_symbol)))
+      (each b (omega (arith, first.in_symbol, is.count))) (is.mended b first.in_symbol)))
 
   -- Where some block is lost, what trying the other dealing leaves is shown.
   pub shown_some_lost : (b : ℕ) → b < length i.blocks.items → get_or i.blocks.items b None ≡ None
@@ -110,7 +118,8 @@ module _ {room : ℕ} (modules : SymbolView) (doubtful : Option SymbolView) (i :
       (shown_by_standard (λ c r. none r.tried.1 i.held.list c r.by))
   shown_some_lost b hb lost after (IsRestartShown.shown blocks r items dealing held_stays faults_stay) =
       let size = modules.size in
-      let within : b < size.blocks = omega (arith, hb, count) in
+      let are_held = held_by_modules modules i.held is.held in
+      let within : b < size.blocks = omega (arith, hb, is.count) in
       let same : r.held ≡ after.held.list =
       held_is_one modules r.held i.held.list r.by.words_held are_held ∙ ap (λ (w : WordsView). w.list)
       (sym held_stays) in
@@ -121,7 +130,7 @@ module _ {room : ℕ} (modules : SymbolView) (doubtful : Option SymbolView) (i :
         | inr first ↦ first
         | inl near ↦ absurd (none_is_lost (block_check size) (erased_in size doubtful b)
             (block_in size i.held.list b) (block_in size i.mended.list b) (get_or i.blocks.items b None) lost
-            (mended b within) (near b within))
+            (is.mended b within) (near b within))
       ] in
       let tried = subst (λ (w : WordsView). IsFirstLost size (erased_in size doubtful) w.list first.0)
       (sym held_stays) first.1 in
@@ -129,7 +138,7 @@ module _ {room : ℕ} (modules : SymbolView) (doubtful : Option SymbolView) (i :
       ap length r.readings ∙ readings_count size (erased_by Restarted size doubtful) (dealt Restarted size r.held)
       (dealt Restarted size after.mended.list) in
       record {
-        held = subst (Holds modules) (sym held_stays) held;
+        held = subst (Holds modules) (sym held_stays) is.held;
         same_size = r.size;
         of_size = by.of_size;
         dealing = (
@@ -139,7 +148,7 @@ module _ {room : ℕ} (modules : SymbolView) (doubtful : Option SymbolView) (i :
         count = ap length items ∙ length-map blocks (λ block. Some block) ∙ long;
         mended = subst (λ d. AreBlocksMended size (erased_by d size doubtful) (dealt d size after.held.list)
             (dealt d size after.mended.list) after.blocks.items) (sym dealing) (each blocks r items same by);
-        border = faults_stay ∙ border;
+        border = faults_stay ∙ is.border;
       }
     where
       each : (blocks : List BlockReading) (r : IsRestarted modules doubtful after.mended blocks)

@@ -1,13 +1,12 @@
 -- The words that a symbol of any size holds are restored, or a first block of them is lost.
-use Rattle.dm_symbol.proofs.Names.{◌≡◌, ◌⊎◌, ℕ, zero, suc, ◌<◌, ◌≤◌, List, Option, inl, inr, refl, sym, ap, subst, ◌∙◌}
-use Rattle.dm_symbol.proofs.Names.{arith, cases_eq, Extent, Usual, Wide, IsNearBut, SizeEntry, block_check, SymbolView}
-use Rattle.dm_symbol.proofs.Names.{blocks_make_words, Dealing, Standard, Restarted, erased_in, IsDealtTwoWays, dealt}
-use Rattle.dm_symbol.proofs.Names.{erased_by, AreOfSize, AreHeldBy, HasNearBut, block_in, AreRestoredBy, AreRestored}
-use Rattle.dm_symbol.proofs.Names.{AreLost, IsFirstLost}
+use Rattle.dm_symbol.proofs.Names.{codeword_bytes, length_of_block, words_with, ◌≡◌, ◌⊎◌, ℕ, zero, suc, ◌<◌, ◌≤◌, List}
+use Rattle.dm_symbol.proofs.Names.{Option, inl, inr, refl, sym, ap, subst, ◌∙◌, arith, cases_eq, Extent, Usual, Wide}
+use Rattle.dm_symbol.proofs.Names.{IsNearBut, SizeEntry, block_check, SymbolView, blocks_make_words, Dealing, Standard}
+use Rattle.dm_symbol.proofs.Names.{Restarted, erased_in, IsDealtTwoWays, dealt, erased_by, AreOfSize, AreHeldBy}
+use Rattle.dm_symbol.proofs.Names.{HasNearBut, block_in, AreRestoredBy, AreRestored, AreLost, IsFirstLost}
 use Rattle.dm_code.proofs.Exported.{near_but_or_none}
-use Rattle.dm_symbol.proofs.Below.{codewords_are_bytes}
 use Rattle.dm_symbol.proofs.Choosing.{chosen}
-use Rattle.dm_symbol.proofs.SymbolBelow.{block_lengths, block_facts}
+use Rattle.dm_symbol.proofs.SymbolBelow.{block_facts}
 use Rattle.dm_symbol.proofs.Dealings.{dealt_of_size, not_restarted, not_wide, undealt}
 
 -- Some codeword is near to a block but for its erased places, or none is.
@@ -17,7 +16,7 @@ block_near_or_none : (size : SizeEntry) (erased : ℕ → List ℕ) (words : Lis
     ⊎ (HasNearBut (block_check size) (block_in size words b) (erased b) → ⊥)
 block_near_or_none size erased words h b hb =
     let f = block_facts size h.size b hb in
-    let long = block_lengths size words h b hb in
+    let long = length_of_block (words_with size words) b h hb in
     elim (near_but_or_none (block_check size) (block_in size words b) (erased b) (omega (arith, long, f.some_data))
     (omega (arith, long, f.short))) [
       | inl some ↦ inl some
@@ -55,8 +54,8 @@ restored d modules doubtful words two h near =
     let near_one = chosen size.blocks
     (λ b c. IsNearBut (block_check size) (block_in size word b) (erased_by d size doubtful b) c) near in
     let made = blocks_make_words size near_one.0 h.codewords.size (λ b hb. (
-      (near_one.1 b hb).long ∙ block_lengths size word (dealt_of_size d size words two h.codewords) b hb,
-      codewords_are_bytes (block_check size) (near_one.0 b) (near_one.1 b hb).codeword,
+      (near_one.1 b hb).long ∙ length_of_block (words_with size word) b (dealt_of_size d size words two h.codewords) hb,
+      codeword_bytes (block_check size) (near_one.0 b) (near_one.1 b hb).codeword,
     )) in
     let back = undealt d size made.0.list two (subst (λ s. AreOfSize s made.0.list) made.2 made.1) in (
       back.0,

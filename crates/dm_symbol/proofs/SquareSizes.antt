@@ -4,13 +4,13 @@ use Rattle.dm_symbol.proofs.Names.{map, Option, Some, None, IsSome, refl, sym, a
 use Rattle.dm_symbol.proofs.Names.{false≢true, Extent, Square, SizeEntry, entry_for, entry_of, SizeRow, IsRow}
 use Rattle.dm_symbol.proofs.Names.{row_for_words, row_with_side, symbol_size, row_facts, at_found}
 use Rattle.std.proofs.lemmas.Bool.{leb-true, le-leb}
-use Rattle.dm_words.specs.Messages.{most_spelled}
-use Rattle.dm_words.proofs.Exported.{room_for_spelled}
 use Rattle.dm_layout.specs.symbols.Sizes.{is_square}
-use Rattle.dm_layout.specs.symbols.Sizes as symbols
 use Rattle.dm_layout.specs.Sizes.{size_table, block_check}
 use Rattle.dm_layout.proofs.Exported.{found_row}
 use Rattle.dm_layout.proofs.symbols.Exported.{found_passes}
+use Rattle.dm_words.specs.Messages.{most_spelled}
+use Rattle.dm_words.proofs.Exported.{room_for_spelled}
+use Rattle.dm_layout.specs.symbols.Sizes as symbols
 use Rattle.dm_symbol.proofs.SymbolWriteSteps.{chosen_holds}
 
 -- The size for a side stands in the table and has that side.

@@ -1,14 +1,12 @@
 -- What the layers below promise of symbols of any size, as the proofs here cite it.
-use Rattle.dm_symbol.proofs.Names.{◌≡◌, ℕ, ◌+◌, ◌*◌, ◌<◌, ◌≤◌, List, [], length, get_or, refl, ap, ◌∙◌, arith, All}
-use Rattle.dm_symbol.proofs.Names.{ext_get_or, length-take, length-take-le, IsNear, distance, IsNearBut, distance_but}
-use Rattle.dm_symbol.proofs.Names.{SizeEntry, IsSize, count_in_block, codeword_count, block_data, block_check}
-use Rattle.dm_symbol.proofs.Names.{block_length, IsLaid, SymbolView, WordsView, data_of, size_facts, words_with}
-use Rattle.dm_symbol.proofs.Names.{AreOfSize, AreHeldBy, block_in}
+use Rattle.dm_symbol.proofs.Names.{◌≡◌, ℕ, ◌+◌, ◌*◌, ◌<◌, ◌≤◌, List, [], length, get_or, refl, ap, ◌∙◌, arith}
+use Rattle.dm_symbol.proofs.Names.{ext_get_or, length-take, length-take-le, distance, distance_but, SizeEntry, IsSize}
+use Rattle.dm_symbol.proofs.Names.{count_in_block, codeword_count, block_data, block_check, block_length, SymbolView}
+use Rattle.dm_symbol.proofs.Names.{WordsView, data_of, size_facts, words_with, AreOfSize, AreHeldBy, block_in}
+use Rattle.dm_symbol.proofs.Names.{length_of_block, word_of_block}
 use Rattle.dm_code.specs.Erased.{blank}
-use Rattle.dm_code.proofs.Exported.{near_but_one, near_but_none, near_none_but}
 use Rattle.dm_layout.specs.symbols.Words.{IsWords}
-use Rattle.dm_layout.proofs.symbols.Exported.{length_of_block, word_of_block, one_held, one_laid, short_block}
-use Rattle.dm_layout.proofs.symbols.Exported.{some_block_data, block_parts}
+use Rattle.dm_layout.proofs.symbols.Exported.{one_held, short_block, some_block_data, block_parts}
 
 -- No symbol has more data codewords than these.
 pub data_fits : (words : WordsView) (list : List ℕ) → IsWords words → list ≡ data_of words → length list ≤ 1558
@@ -25,16 +23,6 @@ pub data_as_many : (words : WordsView) (list : List ℕ) → IsWords words → l
     → length list ≡ words.size.data_count
 data_as_many words list h is =
     ap length is ∙ length-take-le words.size.data_count words.list (omega (arith, h.count))
-
--- Place i of block b is place i * B + b of the symbol.
-pub block_places : (size : SizeEntry) (words : List ℕ) → AreOfSize size words → (b i : ℕ) → b < size.blocks
-    → i < block_length size b → get_or (block_in size words b) i 0 ≡ get_or words (i * size.blocks + b) 0
-block_places size words h b i hb hi = word_of_block (words_with size words) b i h hb hi
-
--- A block has the length of its size.
-pub block_lengths : (size : SizeEntry) (words : List ℕ) → AreOfSize size words → (b : ℕ) → b < size.blocks
-    → length (block_in size words b) ≡ block_length size b
-block_lengths size words h b hb = length_of_block (words_with size words) b h hb
 
 -- A block is as long as a word can be, or shorter, and longer than its check codewords; of these there are 5 to 68.
 pub record BlockFacts (size : SizeEntry) (b : ℕ) : Type 0 where
@@ -70,10 +58,10 @@ pub only_block : (size : SizeEntry) (words : List ℕ) → AreOfSize size words 
 only_block size words h one b hb =
     let whole : block_length size b ≡ codeword_count size = only_length size b one hb in
     let long : length (block_in size words b) ≡ length words =
-    omega (arith, block_lengths size words h b hb, whole, h.count) in
+    omega (arith, length_of_block (words_with size words) b h hb, whole, h.count) in
     ext_get_or 0 (block_in size words b) words long (λ i hi.
     let here : i * size.blocks + b ≡ i = omega (arith, ap (λ n. i * n) one, one, hb) in
-    block_places size words h b i hb (omega (arith, hi, long, whole, h.count)) ∙ ap (λ j. get_or words j 0) here)
+    word_of_block (words_with size words) b i h hb (omega (arith, hi, long, whole, h.count)) ∙ ap (λ j. get_or words j 0) here)
 
 -- Where a symbol has one block, it has few codewords.
 pub only_short : (size : SizeEntry) (words : List ℕ) → AreOfSize size words → size.blocks ≡ 1
@@ -90,25 +78,10 @@ blocks_are s t e = ap (λ r. r.blocks) e
 
 -- ---- near with no place erased
 
--- What is near is near but for no place.
-pub near_plain : (k : ℕ) (word other : List ℕ) → IsNear k word other → IsNearBut k word [] other
-near_plain k word other h = near_none_but k word other h
-
--- What is near but for no place is near.
-pub plain_near : (k : ℕ) (word other : List ℕ) → IsNearBut k word [] other → IsNear k word other
-plain_near k word other h = near_but_none k word other h
-
 -- But for no place, words differ at as many places as they do.
 pub distance_plain : (word other : List ℕ) → distance_but [] word other ≡ distance word other
 unfolding blank
 distance_plain word other = refl
-
--- At most one codeword is near to a block but for places of it.
-pub near_but_is_one : (k : ℕ) (word places first second : List ℕ) → k < 255 → All (λ a. a < 256) word → k ≤ length word
-    → length word ≤ 255 → ((i : ℕ) → i < length places → get_or places i 0 < length word)
-    → IsNearBut k word places first → IsNearBut k word places second → first ≡ second
-near_but_is_one k word places first second small bytes room short within hf hs =
-    near_but_one k word places first second short hf hs
 
 -- ---- codewords and modules
 
@@ -116,7 +89,3 @@ near_but_is_one k word places first second small bytes room short within hf hs =
 pub held_is_one : (modules : SymbolView) (u v : List ℕ) → AreHeldBy modules u → AreHeldBy modules v → u ≡ v
 held_is_one modules u v hu hv =
     ap (λ (w : WordsView). w.list) (one_held modules (words_with modules.size u) (words_with modules.size v) hu hv)
-
--- Codewords are laid in only one symbol.
-pub laid_is_one : (m n : SymbolView) (words : WordsView) → IsLaid words m → IsLaid words n → m ≡ n
-laid_is_one m n words hm hn = one_laid words m n hm hn

@@ -1,19 +1,19 @@
 -- Data codewords are completed by check codewords, and a size that is chosen stands in the table.
-use Rattle.dm_symbol.proofs.Names.{◌≡◌, ℕ, ◌<◌, List, ◌++◌, length, take, replicate, Some, refl, sym, ap, subst, ◌∙◌}
-use Rattle.dm_symbol.proofs.Names.{arith, nat_le, ◌&&◌, find, Bool, true, false, not, cond, nat_eq, [], ◌∷◌, All}
-use Rattle.dm_symbol.proofs.Names.{AllByRecursion, and_parts, and_from, eq-eqb, length-append, length-take-le}
-use Rattle.dm_symbol.proofs.Names.{All-from_get_or, All-take, take-append_seam, IsCodeword, SizeChoice, SizeEntry}
-use Rattle.dm_symbol.proofs.Names.{IsSize, entry_for, block_data, block_check, block_length, at_found}
-use Rattle.dm_symbol.proofs.Names.{blocks_make_words, same_data_by_blocks, words_with, AreOfSize, AreCodewordsOf}
-use Rattle.dm_symbol.proofs.Names.{block_in, first_data}
+use Rattle.dm_symbol.proofs.Names.{codeword_bytes, length_of_block, ◌≡◌, ℕ, ◌<◌, List, ◌++◌, length, take, replicate}
+use Rattle.dm_symbol.proofs.Names.{Some, refl, sym, ap, subst, ◌∙◌, arith, nat_le, ◌&&◌, Bool, true, false, not, cond}
+use Rattle.dm_symbol.proofs.Names.{nat_eq, [], ◌∷◌, find, All, AllByRecursion, and_parts, and_from, eq-eqb}
+use Rattle.dm_symbol.proofs.Names.{length-append, length-take-le, All-from_get_or, All-take, take-append_seam}
+use Rattle.dm_symbol.proofs.Names.{IsCodeword, SizeChoice, SizeEntry, IsSize, entry_for, block_data, block_check}
+use Rattle.dm_symbol.proofs.Names.{block_length, at_found, blocks_make_words, same_data_by_blocks, words_with}
+use Rattle.dm_symbol.proofs.Names.{AreOfSize, AreCodewordsOf, block_in, first_data}
+use Rattle.dm_code.proofs.Exported.{checks_are_there}
 use Rattle.std.specs.List.{list_all}
 use Rattle.std.proofs.lemmas.List.{get_or-replicate, length-replicate}
 use Rattle.std.proofs.lemmas.List.Elements.{All-append}
 use Rattle.dm_layout.specs.symbols.Sizes.{takes, size_table}
 use Rattle.dm_layout.specs.symbols.Blocks.{AreBlocks}
-use Rattle.dm_symbol.proofs.Below.{codewords_are_bytes, checks_are_there}
 use Rattle.dm_symbol.proofs.Choosing.{chosen}
-use Rattle.dm_symbol.proofs.SymbolBelow.{block_lengths, block_facts}
+use Rattle.dm_symbol.proofs.SymbolBelow.{block_facts}
 use Rattle.dm_symbol.proofs.SymbolReadings.{bytes_in_block}
 
 -- ---- sizes
@@ -100,7 +100,7 @@ front_length : (size : SizeEntry) (words : List ℕ) → AreOfSize size words �
     → length (take (block_data size b) (block_in size words b)) ≡ block_data size b
 front_length size words h b hb =
     length-take-le (block_data size b) (block_in size words b)
-    (omega (arith, block_lengths size words h b hb, (block_facts size h.size b hb).parts))
+    (omega (arith, length_of_block (words_with size words) b h hb, (block_facts size h.size b hb).parts))
 
 -- Each block has check codewords that complete it.
 completion : (size : SizeEntry) (words : List ℕ) → AreOfSize size words → (b : ℕ) → b < size.blocks
@@ -151,7 +151,7 @@ checks_for size data_words entry long bytes =
     let hu = with_zeros size data_words entry long bytes in
     let blocks = chosen size.blocks (IsCompletion size u) (completion size u hu) in
     let made = words_of_blocks size blocks.0 entry
-    (λ b hb. ((blocks.1 b hb).long, codewords_are_bytes (block_check size) (blocks.0 b) (blocks.1 b hb).codeword)) in
+    (λ b hb. ((blocks.1 b hb).long, codeword_bytes (block_check size) (blocks.0 b) (blocks.1 b hb).codeword)) in
     let stay : first_data size made.list ≡ first_data size u =
     same_data_by_blocks (words_with size made.list) (words_with size u) made.of_size hu refl (λ b hb.
     let front = take (block_data size b) (block_in size u b) in

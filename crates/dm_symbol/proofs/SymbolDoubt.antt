@@ -1,19 +1,19 @@
 -- Which codewords are erased, by the marks of a symbol, and that none is where no module is doubtful.
 use Rattle.dm_symbol.proofs.Names.{◌≡◌, ℕ, zero, suc, ◌+◌, ◌-◌, ◌/◌, ◌%◌, ◌^◌, ◌<◌, ◌≤◌, Bool, true, false, not, cond}
-use Rattle.dm_symbol.proofs.Names.{◌&&◌, nat_eq, List, [], ◌∷◌, length, get_or, map, Option, Some, None, refl, sym, ap}
-use Rattle.dm_symbol.proofs.Names.{subst, ◌∙◌, arith, sum_by, count_by, range_with_len, agree_below_at, length-map}
-use Rattle.dm_symbol.proofs.Names.{sum_by-cons, length-range_with_len, place, erased_places, erased_within, SizeEntry}
-use Rattle.dm_symbol.proofs.Names.{count_in_block, mapping_rows, mapping_columns, codeword_count, block_length}
-use Rattle.dm_symbol.proofs.Names.{SymbolView, WordsView, places_of_block, Holds, is_fault, is_doubtful_bit, is_erased}
-use Rattle.dm_symbol.proofs.Names.{erased_in, is_sure_fault, sure_fault_count, is_mark, marked_in}
+use Rattle.dm_symbol.proofs.Names.{◌&&◌, nat_eq, List, [], ◌∷◌, length, get_or, map, Some, None, refl, sym, ap, subst}
+use Rattle.dm_symbol.proofs.Names.{◌∙◌, arith, sum_by, count_by, range_with_len, agree_below_at, length-map}
+use Rattle.dm_symbol.proofs.Names.{sum_by-cons, length-range_with_len, place, erased_places, SizeEntry, count_in_block}
+use Rattle.dm_symbol.proofs.Names.{mapping_rows, mapping_columns, codeword_count, SymbolView, WordsView}
+use Rattle.dm_symbol.proofs.Names.{places_of_block, Holds, is_fault, is_doubtful_bit, is_erased, erased_in}
+use Rattle.dm_symbol.proofs.Names.{is_sure_fault, sure_fault_count, is_mark, marked_in}
 use Rattle.std.proofs.Common.{◌||◌, filter}
 use Rattle.std.specs.List.{list_any}
-use Rattle.dm_place.specs.Holding.{bit_of}
 use Rattle.dm_place.specs.Placement.{shapes}
-use Rattle.dm_place.proofs.Exported.{count_at_sides}
 use Rattle.dm_code.specs.Erased.{erased_places_from}
-use Rattle.dm_layout.proofs.symbols.Exported.{length-block_of, placed_size}
 use Rattle.dm_layout.specs.symbols.Border.{border_fault_count}
+use Rattle.dm_place.specs.Holding.{bit_of}
+use Rattle.dm_place.proofs.Exported.{count_at_sides}
+use Rattle.dm_layout.proofs.symbols.Exported.{length-block_of, placed_size}
 
 -- ---- how many places a block has
 
@@ -25,15 +25,6 @@ places_count B b count hb =
     ap (λ n. length (places_of_block B b n)) (sym long)
     ∙ sym (length-map (places_of_block B b (length words)) (λ j. get_or words j 0))
     ∙ length-block_of B b words hb ∙ ap (λ n. count_in_block n B b) long
-
--- The erased places of a block lie in it.
-pub erased_inside : (size : SizeEntry) (doubtful : Option SymbolView) (b i : ℕ) → b < size.blocks
-    → i < length (erased_in size doubtful b) → get_or (erased_in size doubtful b) i 0 < block_length size b
-erased_inside size doubtful b i hb hi =
-    let places = places_of_block size.blocks b (codeword_count size) in
-    let long : length (map (is_erased size doubtful) places) ≡ block_length size b =
-    length-map places (is_erased size doubtful) ∙ places_count size.blocks b (codeword_count size) hb in
-    erased_within 0 (block_length size b) (map (is_erased size doubtful) places) (omega (arith, long)) i 0 hi
 
 -- ---- none is doubtful
 
@@ -152,6 +143,29 @@ erased_where_marked size doubtful marks of_size h j hj =
 
 -- ---- borders
 
+-- Tests that agree at each place of a rectangle are passed at as many places.
+pub same_counts : (p q : ℕ → ℕ → Bool) (columns a n : ℕ) → ((row column : ℕ) → p row column ≡ q row column)
+    → sum_by (λ row. count_by (p row) (range_with_len 0 columns)) (range_with_len a n)
+    ≡ sum_by (λ row. count_by (q row) (range_with_len 0 columns)) (range_with_len a n)
+same_counts p q columns a zero same = refl
+same_counts p q columns a (suc n) same =
+    rw (
+      sum_by-cons (λ row. count_by (p row) (range_with_len 0 columns)) a (range_with_len (a + 1) n),
+      sum_by-cons (λ row. count_by (q row) (range_with_len 0 columns)) a (range_with_len (a + 1) n),
+      line 0 columns,
+      same_counts p q columns (a + 1) n same,
+    )
+  where
+    line : (b m : ℕ) → count_by (p a) (range_with_len b m) ≡ count_by (q a) (range_with_len b m)
+    line b zero = refl
+    line b (suc m) =
+        rw (
+          sum_by-cons (λ c. cond (p a c) 1 0) b (range_with_len (b + 1) m),
+          sum_by-cons (λ c. cond (q a c) 1 0) b (range_with_len (b + 1) m),
+          same a b,
+          line (b + 1) m,
+        )
+
 -- A fault of which there is no doubt is a fault.
 nothing_doubted : (b : Bool) → b ≡ (b && not false)
 nothing_doubted true = refl
@@ -159,27 +173,6 @@ nothing_doubted false = refl
 
 -- Where no module is doubtful, each border fault is sure.
 pub faults_by_none : (modules : SymbolView) → border_fault_count modules ≡ sure_fault_count modules None
-faults_by_none modules = rows 0 modules.size.rows
-  where
-    line : (row a n : ℕ) → count_by (is_fault modules row) (range_with_len a n) ≡ count_by
-        (is_sure_fault modules None row) (range_with_len a n)
-    line row a zero = refl
-    line row a (suc n) =
-        sum_by-cons (λ c. cond (is_fault modules row c) 1 0) a (range_with_len (a + 1) n)
-        ∙ ap (λ x. cond x 1 0 + count_by (is_fault modules row) (range_with_len (a + 1) n))
-        (nothing_doubted (is_fault modules row a))
-        ∙ ap (λ x. cond (is_sure_fault modules None row a) 1 0 + x) (line row (a + 1) n)
-        ∙ sym (sum_by-cons (λ c. cond (is_sure_fault modules None row c) 1 0) a (range_with_len (a + 1) n))
-
-    rows : (a n : ℕ) → sum_by (λ row. count_by (is_fault modules row) (range_with_len 0 modules.size.columns))
-        (range_with_len a n)
-        ≡ sum_by (λ row. count_by (is_sure_fault modules None row) (range_with_len 0 modules.size.columns))
-        (range_with_len a n)
-    rows a zero = refl
-    rows a (suc n) =
-        let plain = λ (row : ℕ). count_by (is_fault modules row) (range_with_len 0 modules.size.columns) in
-        let sure = λ (row : ℕ). count_by (is_sure_fault modules None row) (range_with_len 0 modules.size.columns) in
-        sum_by-cons plain a (range_with_len (a + 1) n)
-        ∙ ap (λ x. x + sum_by plain (range_with_len (a + 1) n)) (line a 0 modules.size.columns)
-        ∙ ap (λ x. sure a + x) (rows (a + 1) n)
-        ∙ sym (sum_by-cons sure a (range_with_len (a + 1) n))
+faults_by_none modules =
+    same_counts (is_fault modules) (is_sure_fault modules None) modules.size.columns 0 modules.size.rows
+    (λ row column. nothing_doubted (is_fault modules row column))

@@ -1,21 +1,23 @@
 -- The words that a symbol of any size holds are restored to one list of codewords, or are lost by one block.
-use Rattle.dm_symbol.proofs.Names.{◌≡◌, ℕ, ◌+◌, ◌*◌, ◌<◌, List, Option, inl, inr, refl, sym, subst, arith, All}
-use Rattle.dm_symbol.proofs.Names.{All-from_get_or, All-get_or, All-take, Extent, Wide, SizeEntry, block_check}
-use Rattle.dm_symbol.proofs.Names.{block_length, SymbolView, Dealing, Standard, Restarted, erased_in, IsDealtTwoWays}
-use Rattle.dm_symbol.proofs.Names.{dealt, erased_by, words_with, AreOfSize, AreHeldBy, AreBlocksNear, block_in}
-use Rattle.dm_symbol.proofs.Names.{first_data, AreRestoredBy, IsTried, AreRestored, AreLost, IsFirstLost}
-use Rattle.std.proofs.lemmas.Bool.{cases_order}
+use Rattle.dm_symbol.proofs.Names.{length_of_block, word_of_block, ◌≡◌, ℕ, ◌+◌, ◌*◌, ◌<◌, List, Option, inl, inr, refl}
+use Rattle.dm_symbol.proofs.Names.{sym, subst, arith, All, All-from_get_or, All-get_or, All-take, Extent, Wide}
+use Rattle.dm_symbol.proofs.Names.{SizeEntry, block_check, block_length, SymbolView, Dealing, Standard, Restarted}
+use Rattle.dm_symbol.proofs.Names.{erased_in, IsDealtTwoWays, dealt, erased_by, words_with, AreOfSize, AreHeldBy}
+use Rattle.dm_symbol.proofs.Names.{AreBlocksNear, block_in, first_data, AreRestoredBy, IsTried, AreRestored, AreLost}
+use Rattle.dm_symbol.proofs.Names.{IsFirstLost}
+use Rattle.dm_code.proofs.Exported.{near_but_one}
 use Rattle.dm_layout.proofs.symbols.Exported.{place_inside, same_by_blocks}
-use Rattle.dm_symbol.proofs.SymbolBelow.{block_places, block_lengths, block_facts, held_is_one, near_but_is_one}
-use Rattle.dm_symbol.proofs.Dealings.{dealt_of_size, erased_by_inside, not_restarted, same_dealt}
+use Rattle.std.proofs.lemmas.Bool.{cases_order}
+use Rattle.dm_symbol.proofs.SymbolBelow.{block_facts, held_is_one}
+use Rattle.dm_symbol.proofs.Dealings.{dealt_of_size, not_restarted, same_dealt}
 
 -- The codewords of a block are bytes.
 pub bytes_in_block : (size : SizeEntry) (words : List ℕ) → AreOfSize size words → (b : ℕ) → b < size.blocks
     → All (λ w. w < 256) (block_in size words b)
 bytes_in_block size words h b hb =
     All-from_get_or (λ w. w < 256) (block_in size words b) 0 (λ i hi.
-    let within : i < block_length size b = omega (arith, hi, block_lengths size words h b hb) in
-    subst (λ w. w < 256) (sym (block_places size words h b i hb within))
+    let within : i < block_length size b = omega (arith, hi, length_of_block (words_with size words) b h hb) in
+    subst (λ w. w < 256) (sym (word_of_block (words_with size words) b i h hb within))
     (All-get_or (λ w. w < 256) words (i * size.blocks + b) 0 (place_inside (words_with size words) b i h hb within)
     h.bytes))
 
@@ -67,14 +69,9 @@ module _ (modules : SymbolView) (doubtful : Option SymbolView) where
         same_dealt d size c f two hu.of_size hv.of_size (equal_blocks size (dealt d size c) (dealt d size f)
             (dealt_of_size d size c two hu.of_size) (dealt_of_size d size f two hv.of_size) (λ b hb.
             let facts = block_facts size hu.of_size.size b hb in
-            let long = block_lengths size word of_size b hb in
-            near_but_is_one (block_check size) (block_in size word b) (places b) (block_in size (dealt d size c) b)
-            (block_in size (dealt d size f) b)
-            (omega (arith, facts.few_checks)) (bytes_in_block size word of_size b hb)
-            (omega (arith, long, facts.some_data))
-            (omega (arith, long, facts.short))
-            (λ i hi. omega (arith, erased_by_inside d size doubtful b i hb hi, long))
-            (hu.near b hb) (near b hb))),
+            let long = length_of_block (words_with size word) b of_size hb in
+            near_but_one (block_check size) (block_in size word b) (places b) (block_in size (dealt d size c) b)
+            (block_in size (dealt d size f) b) (omega (arith, long, facts.short)) (hu.near b hb) (near b hb))),
       )
 
   -- What is near by the standard's dealing isn't restored by the other.

@@ -1,22 +1,12 @@
 -- The steps by which the blocks of a symbol of any size are restored, one after the other.
-use Rattle.dm_symbol.proofs.Names.{◌≡◌, ℕ, zero, suc, ◌+◌, ◌-◌, ◌*◌, ◌<◌, ◌≤◌, Bool, List, [], ◌∷◌, ◌++◌, length}
-use Rattle.dm_symbol.proofs.Names.{get_or, map, take, Option, Some, None, Result, Ok, Err, refl, sym, ap, subst, ◌∙◌}
-use Rattle.dm_symbol.proofs.Names.{below_more, arith, OnOk, range_with_len, get_or_append_left, get_or_push, map-append}
-use Rattle.dm_symbol.proofs.Names.{IsNear, distance, IsNearBut, distance_but, erased_places, SizeEntry, block_check}
-use Rattle.dm_symbol.proofs.Names.{BlockReading, AreBlocksNear, HasNearBut, block_in, IsFirstLost, IsBlockRestored}
-use Rattle.dm_symbol.proofs.Names.{AreBlocksMended, block_reading, block_readings, is_mark}
-use Rattle.std.proofs.Common.{take-suc}
+use Rattle.dm_symbol.proofs.Names.{near_none_but, ◌≡◌, ℕ, zero, suc, ◌+◌, ◌-◌, ◌*◌, ◌<◌, ◌≤◌, List, [], ◌∷◌, ◌++◌}
+use Rattle.dm_symbol.proofs.Names.{length, get_or, map, Option, Some, None, Result, Ok, Err, refl, sym, ap, subst, ◌∙◌}
+use Rattle.dm_symbol.proofs.Names.{below_more, arith, OnOk, range_with_len, get_or_append_left, get_or_push, IsNear}
+use Rattle.dm_symbol.proofs.Names.{distance, IsNearBut, distance_but, SizeEntry, block_check, BlockReading}
+use Rattle.dm_symbol.proofs.Names.{AreBlocksNear, HasNearBut, block_in, IsFirstLost, IsBlockRestored, AreBlocksMended}
+use Rattle.dm_symbol.proofs.Names.{block_reading, block_readings}
 use Rattle.std.specs.Prelude.{IfErr}
-use Rattle.dm_symbol.proofs.SymbolBelow.{near_plain, distance_plain}
-
--- One place more is asked for its mark.
-pub marks_more : (words : List ℕ) (flags : List Bool) (i : ℕ) → i < length words → flags ≡ map is_mark (take i words)
-    → flags ++ is_mark (get_or words i 0) ∷ [] ≡ map is_mark (take (i + 1) words)
-marks_more words flags i h so_far =
-    let one : take (i + 1) words ≡ take i words ++ get_or words i 0 ∷ [] =
-    ap (λ n. take n words) (let n : i + 1 ≡ suc i = omega arith in n) ∙ take-suc words i 0 h in
-    ap (λ fs. fs ++ is_mark (get_or words i 0) ∷ []) so_far
-    ∙ sym (map-append is_mark (take i words) (get_or words i 0 ∷ [])) ∙ sym (ap (map is_mark) one)
+use Rattle.dm_symbol.proofs.SymbolBelow.{distance_plain}
 
 -- ---- what is said of a block
 
@@ -50,32 +40,7 @@ plain_restored k checks changed held found after near counted same put =
     let whole : 2 * changed + 0 + (checks - 2 * changed) ≡ k = omega (arith, near.close, counted, same) in
     subst (λ x. IsBlockRestored k [] held x
     (Some (record { corrected = changed; erased = 0; left = checks - 2 * changed }))) (sym put)
-    (near_plain k held found near, reading_is k changed 0 (checks - 2 * changed) [] held found said refl whole)
-
--- What is near to a word but for places is near to an equal one but for equal places.
-pub near_but_moves : (k l : ℕ) (word held : List ℕ) (flags marks : List Bool) (other : List ℕ) → k ≡ l → word ≡ held
-    → flags ≡ marks → IsNearBut k word (erased_places flags) other → IsNearBut l held (erased_places marks) other
-near_but_moves k l word held flags marks other ek ew ef h =
-    subst (λ x. IsNearBut x held (erased_places marks) other) ek
-    (subst (λ x. IsNearBut k x (erased_places marks) other) ew
-    (subst (λ x. IsNearBut k word (erased_places x) other) ef h))
-
--- A block that becomes the codeword near to it but for places is restored.
-pub marked_restored : (k l : ℕ) (word held found after : List ℕ) (flags marks : List Bool) (changed erased left : ℕ)
-    → l ≡ k
-    → word ≡ held → flags ≡ marks → IsNearBut l word (erased_places flags) found
-    → changed ≡ distance_but (erased_places flags) word found → erased ≡ length (erased_places flags)
-    → 2 * changed + erased + left ≡ l → after ≡ found
-    → IsBlockRestored k (erased_places marks) held after
-    (Some (record { corrected = changed; erased = erased; left = left }))
-marked_restored k l word held found after flags marks changed erased left el ew ef near counted all whole put =
-    let said : Option BlockReading = Some (record { corrected = changed; erased = erased; left = left }) in
-    let first : IsBlockRestored l (erased_places flags) word found said =
-    (near, reading_is l changed erased left (erased_places flags) word found counted all whole) in
-    subst (λ x. IsBlockRestored x (erased_places marks) held after said) el
-    (subst (λ x. IsBlockRestored l (erased_places marks) x after said) ew
-    (subst (λ x. IsBlockRestored l (erased_places x) word after said) ef
-    (subst (λ x. IsBlockRestored l (erased_places flags) word x said) (sym put) first)))
+    (near_none_but k held found near, reading_is k changed 0 (checks - 2 * changed) [] held found said refl whole)
 
 -- This is said of no block; it fills the places behind a list.
 abbrev pub nothing_said : BlockReading
@@ -136,12 +101,9 @@ module _ (size : SizeEntry) (e f : ℕ → List ℕ) (same : (b : ℕ) → b < s
           ap (λ r. r ∷ map (of e) (range_with_len (a + 1) n)) here
           ∙ ap (λ rs. of f a ∷ rs) (each (a + 1) n (λ b low high. inside b (omega arith) (omega arith)))
 
--- What follows from a fact of a success.
-pub on_ok : {A E : Type 0} {P Q : Type 0} (r : Result A E) → (P → Q) → OnOk r P → OnOk r Q
-on_ok (Ok a) f h = f h
-on_ok (Err e) f h = tt
-
--- What follows from a fact of each failure.
-pub if_err : {A : Type 0} {P Q : ℕ → Type 0} (r : Result A ℕ) → ((b : ℕ) → P b → Q b) → IfErr r P → IfErr r Q
-if_err (Ok a) f h = tt
-if_err (Err b) f h = f b h
+  -- So what restoring the blocks leaves but for the ones is what it leaves but for the others.
+  pub blocks_move : (r : Result Unit ℕ) (u v : List ℕ) (list : List BlockReading) → OnOk r (AreBlocksNear size e u v)
+      → OnOk r (list ≡ block_readings size e u v) → IfErr r (IsFirstLost size e u)
+      → OnOk r (AreBlocksNear size f u v) × OnOk r (list ≡ block_readings size f u v) × IfErr r (IsFirstLost size f u)
+  blocks_move (Ok a) u v list near said lost = (near_moves u v near, said ∙ readings_move u v, tt)
+  blocks_move (Err b) u v list near said lost = (tt, tt, lost_moves u b lost)

@@ -1,13 +1,13 @@
 -- Check codewords follow from the data codewords, and the sizes that are chosen for so many of these hold them.
-use Rattle.dm_symbol.proofs.Names.{◌≡◌, ◌≢◌, ℕ, ◌+◌, ◌<◌, ◌≤◌, List, ◌++◌, length, get_or, take, Some, inl, inr, refl}
-use Rattle.dm_symbol.proofs.Names.{sym, ap, subst, ◌∙◌, arith, cases_eq, get_or-take, length-take-le, take-append_seam}
-use Rattle.dm_symbol.proofs.Names.{IsCodeword, distance, SizeChoice, SizeEntry, entry_for, block_data, block_check}
-use Rattle.dm_symbol.proofs.Names.{block_of, same_data_by_blocks, words_with, AreOfSize, AreCodewordsOf, block_in}
-use Rattle.dm_symbol.proofs.Names.{first_data}
+use Rattle.dm_symbol.proofs.Names.{length_of_block, ◌≡◌, ◌≢◌, ℕ, ◌+◌, ◌<◌, ◌≤◌, List, ◌++◌, length, get_or, take, Some}
+use Rattle.dm_symbol.proofs.Names.{inl, inr, refl, sym, ap, subst, ◌∙◌, arith, cases_eq, get_or-take, length-take-le}
+use Rattle.dm_symbol.proofs.Names.{take-append_seam, IsCodeword, distance, SizeChoice, SizeEntry, entry_for, block_data}
+use Rattle.dm_symbol.proofs.Names.{block_check, block_of, same_data_by_blocks, words_with, AreOfSize, AreCodewordsOf}
+use Rattle.dm_symbol.proofs.Names.{block_in, first_data}
+use Rattle.dm_code.proofs.Exported.{codewords_one}
 use Rattle.dm_layout.proofs.symbols.Exported.{data_of_block, enough}
-use Rattle.dm_symbol.proofs.Below.{codewords_apart}
 use Rattle.dm_symbol.proofs.Distances.{differing_prefix}
-use Rattle.dm_symbol.proofs.SymbolBelow.{block_lengths, block_facts}
+use Rattle.dm_symbol.proofs.SymbolBelow.{block_facts}
 use Rattle.dm_symbol.proofs.SymbolReadings.{equal_blocks}
 
 -- ---- check codewords
@@ -24,7 +24,7 @@ checks_keep_data size u v checks b hu hv hb put others =
           let front = take (block_data size b) (block_in size u b) in
           let long : length front ≡ block_data size b =
           length-take-le (block_data size b) (block_in size u b)
-          (omega (arith, block_lengths size u hu b hb, (block_facts size hu.size b hb).parts)) in
+          (omega (arith, length_of_block (words_with size u) b hu hb, (block_facts size hu.size b hb).parts)) in
           ap (λ x. take (block_data size x) (block_in size v x)) e
           ∙ ap (take (block_data size b)) put
           ∙ ap (λ n. take n (front ++ checks)) (sym long)
@@ -59,8 +59,8 @@ checks_follow size u v hu hv cu cv same =
     equal_blocks size u v hu hv (λ b hb.
     let f = block_facts size hu.size b hb in
     let n = block_data size b in
-    let lu = block_lengths size u hu b hb in
-    let lv = block_lengths size v hv b hb in
+    let lu = length_of_block (words_with size u) b hu hb in
+    let lv = length_of_block (words_with size v) b hv hb in
     let front : take n (block_in size u b) ≡ take n (block_in size v b) =
     data_of_block (words_with size u) b hu hb ∙ ap (λ xs. block_of size.blocks b xs) same
     ∙ sym (data_of_block (words_with size v) b hv hb) in
@@ -74,7 +74,7 @@ checks_follow size u v hu hv cu cv same =
       lu,
       f.parts,
     ) in
-    codewords_apart (block_check size) (block_in size u b) (block_in size v b) (cu b hb) (cv b hb) (lu
+    codewords_one (block_check size) (block_in size u b) (block_in size v b) (cu b hb) (cv b hb) (lu
     ∙ sym lv) (omega (arith, lu, f.short)) near)
 
 -- ---- sizes

@@ -1,33 +1,32 @@
 -- A normal grid of which some cells are turned over is still read.
-use Rattle.dm_symbol.proofs.Names.{◌≡◌, ℕ, zero, suc, ◌+◌, ◌-◌, ◌*◌, ◌/◌, ◌%◌, ◌^◌, ◌<◌, ◌≤◌, Bool, true, false, not}
-use Rattle.dm_symbol.proofs.Names.{◌&&◌, eqb, List, get_or, None, inl, inr, refl, sym, ap, subst, ◌∙◌, arith}
-use Rattle.dm_symbol.proofs.Names.{cases_Bool, cases_eq, cases_lt, eqb-true, false≢true, Extent, Usual, Item, Profile}
-use Rattle.dm_symbol.proofs.Names.{IsNear, distance, IsNearBut, Square, SizeRow, IsRow, GridView, IsGrid}
+use Rattle.dm_symbol.proofs.Names.{near_none_but, ◌≡◌, ℕ, zero, suc, ◌+◌, ◌-◌, ◌*◌, ◌/◌, ◌%◌, ◌^◌, ◌<◌, ◌≤◌, Bool, true}
+use Rattle.dm_symbol.proofs.Names.{false, not, ◌&&◌, eqb, List, get_or, None, inl, inr, refl, sym, ap, subst, ◌∙◌}
+use Rattle.dm_symbol.proofs.Names.{arith, cases_Bool, cases_eq, cases_lt, eqb-true, false≢true, Extent, Usual, Item}
+use Rattle.dm_symbol.proofs.Names.{Profile, IsNear, distance, IsNearBut, Square, SizeRow, IsRow, GridView, IsGrid}
 use Rattle.dm_symbol.proofs.Names.{symbol_modules, block_check, SymbolView, border_fault_count, row_facts, same_row}
 use Rattle.dm_symbol.proofs.Names.{as_content, IsMessage, Standard, sure_fault_count, AreHeldBy, AreOfSize, block_in}
 use Rattle.dm_symbol.proofs.Names.{AreRestored, IsNormalGrid, Reads}
+use Rattle.std.proofs.lemmas.Bool.{eqb-false, true≢false}
+use Rattle.dm_code.specs.Codeword.{differing}
+use Rattle.dm_layout.specs.Sizes.{codeword_count, block_length}
+use Rattle.dm_layout.specs.Grid.{cell_at}
+use Rattle.dm_layout.specs.Border.{is_fault, is_border, border_is_dark, symbol_line}
+use Rattle.dm_layout.proofs.Exported.{lies_inside, symbol_line-one, count_at_row, once_at_row, every_grid_holds}
+use Rattle.dm_layout.proofs.Exported.{laid_in_grid, length_of_block, modules_hold, word_of_block}
 use Rattle.std.specs.Bool.{beq}
 use Rattle.std.specs.Int.{bit_at}
 use Rattle.std.proofs.Math.Nat.{pow-suc}
-use Rattle.std.proofs.lemmas.Bool.{eqb-false, true≢false}
 use Rattle.std.proofs.lemmas.Nat.{same_from_place, mul-add-lt}
 use Rattle.std.proofs.lemmas.Nat.Bits.{bit_at_lowest, bit_at-suc}
-use Rattle.dm_code.specs.Codeword.{differing}
 use Rattle.dm_place.specs.declared.shape.Cell.{Cell}
-use Rattle.dm_layout.specs.Sizes.{codeword_count, block_length}
 use Rattle.dm_layout.specs.Blocks.{block_of}
-use Rattle.dm_layout.specs.Grid.{cell_at}
 use Rattle.dm_layout.specs.Words.{WordsView}
-use Rattle.dm_layout.specs.Border.{is_fault, is_border, border_is_dark, symbol_line}
 use Rattle.dm_layout.specs.Placement.{place, At, IsPlace}
 use Rattle.dm_layout.specs.Holds.{Holds, bit_of}
 use Rattle.dm_place.proofs.Exported.{one_bit}
-use Rattle.dm_layout.proofs.Exported.{lies_inside, symbol_line-one, count_at_row, once_at_row, every_grid_holds}
-use Rattle.dm_layout.proofs.Exported.{laid_in_grid, length_of_block, modules_hold, word_of_block}
 use Rattle.dm_symbol.specs.Laws.{turned_cells}
 use Rattle.dm_symbol.proofs.Counts.{cells_grow, none_pass, IsWitness, differing_below_cells}
 use Rattle.dm_symbol.proofs.SquareSizes.{half}
-use Rattle.dm_symbol.proofs.SymbolBelow.{near_plain}
 use Rattle.dm_symbol.proofs.SymbolDoubt.{erased_by_none, faults_by_none}
 use Rattle.dm_symbol.proofs.PlainSymbols.{message_is_content}
 use Rattle.dm_symbol.proofs.WrittenContents.{written_says}
@@ -235,7 +234,7 @@ restored_plainly extent modules u c held of_size near = record {
         let k = block_check modules.size in
         subst (λ e. IsNearBut k (block_in modules.size u b) e (block_in modules.size c b))
         (sym (erased_by_none modules.size b))
-        (near_plain k (block_in modules.size u b) (block_in modules.size c b) (near b hb));
+        (near_none_but k (block_in modules.size u b) (block_in modules.size c b) (near b hb));
   };
 }
 

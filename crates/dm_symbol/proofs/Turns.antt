@@ -6,8 +6,8 @@ use Rattle.dm_symbol.proofs.Names.{get_or_append_left, length-append, length-tak
 use Rattle.dm_symbol.proofs.Names.{get_or-map-range_with_len, length-map-range_with_len, turned, turned_place}
 use Rattle.std.proofs.Common.{nat_lt}
 use Rattle.std.proofs.lemmas.Bool.{ltb-true}
-use Rattle.std.proofs.lemmas.Nat.{mod_below}
 use Rattle.std.proofs.lemmas.List.{get_or-append_right, get_or_past}
+use Rattle.std.proofs.lemmas.Nat.{mod_below}
 
 -- The place of the codeword that the one at place j becomes.
 abbrev pub place_of : ℕ → ℕ → ℕ

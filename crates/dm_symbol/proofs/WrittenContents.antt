@@ -1,17 +1,17 @@
 -- Symbols in which contents are written are read as these, and what follows for normal symbols.
-use Rattle.dm_symbol.proofs.Names.{◌≡◌, ◌↔◌, ℕ, List, replicate, None, Result, Ok, refl, sym, [], ap, subst, ◌∙◌, arith}
-use Rattle.dm_symbol.proofs.Names.{zero, suc, ◌+◌, ◌∷◌, map, range_with_len, IsNearBut, IsLaid, BlockReading}
-use Rattle.dm_symbol.proofs.Names.{sure_fault_count, erased_in, words_with, AreCodewordsOf, block_in, first_data}
-use Rattle.dm_symbol.proofs.Names.{AreRestored, block_reading, block_readings, Extent, Wide, Profile, ContentView}
-use Rattle.dm_symbol.proofs.Names.{IsContent, IsSaidIn, Says, content_form, padded, said_is_one, SizeChoice, SizeEntry}
-use Rattle.dm_symbol.proofs.Names.{block_check, SymbolView, size_facts, Standard, ContentReadFault, nothing_wrong}
-use Rattle.dm_symbol.proofs.Names.{ContentReadingView, ReadsContent, ContentReadResult, content_reading_of}
-use Rattle.dm_symbol.proofs.Names.{IsIdentifier, IsContentWrittenIn}
-use Rattle.dm_symbol.proofs.Distances.{near_itself, distance_to_itself}
-use Rattle.dm_symbol.proofs.SymbolBelow.{near_plain, distance_plain}
-use Rattle.dm_symbol.proofs.SymbolDoubt.{faults_by_none, erased_by_none}
+use Rattle.dm_symbol.proofs.Names.{near_none_but, ◌≡◌, ◌↔◌, ℕ, List, replicate, None, Result, Ok, refl, sym, [], ap}
+use Rattle.dm_symbol.proofs.Names.{subst, ◌∙◌, arith, zero, suc, ◌+◌, ◌∷◌, map, range_with_len, IsNearBut, IsLaid}
+use Rattle.dm_symbol.proofs.Names.{BlockReading, sure_fault_count, erased_in, words_with, AreCodewordsOf, block_in}
+use Rattle.dm_symbol.proofs.Names.{first_data, AreRestored, block_reading, block_readings, Extent, Wide, Profile}
+use Rattle.dm_symbol.proofs.Names.{ContentView, IsContent, Says, IsSaidIn, content_form, padded, said_is_one}
+use Rattle.dm_symbol.proofs.Names.{SizeChoice, SizeEntry, block_check, SymbolView, size_facts, Standard}
+use Rattle.dm_symbol.proofs.Names.{ContentReadFault, nothing_wrong, ContentReadingView, ReadsContent, ContentReadResult}
+use Rattle.dm_symbol.proofs.Names.{content_reading_of, IsIdentifier, IsContentWrittenIn}
 use Rattle.dm_words.proofs.Exported.{form_says_in, content_form_codewords, content_form_count}
 use Rattle.dm_symbol.specs.NormalContent.{ContentFits}
+use Rattle.dm_symbol.proofs.Distances.{near_itself, distance_to_itself}
+use Rattle.dm_symbol.proofs.SymbolBelow.{distance_plain}
+use Rattle.dm_symbol.proofs.SymbolDoubt.{faults_by_none, erased_by_none}
 use Rattle.dm_symbol.proofs.ContentReadings.{one_content_result}
 use Rattle.dm_symbol.proofs.SymbolSteps.{reading_is}
 use Rattle.dm_symbol.proofs.WrittenWords.{words_written_once, written_hold, written_words_are_there, written_words_tell}
@@ -41,7 +41,7 @@ module _ (g : SymbolView) (words : List ℕ) (laid : IsLaid (words_with g.size w
           let k = block_check g.size in
           let block = block_in g.size words b in
           subst (λ e. IsNearBut k block e block) (sym (erased_by_none g.size b))
-          (near_plain k block block (near_itself k block (checked b hb)));
+          (near_none_but k block block (near_itself k block (checked b hb)));
     };
   }
 

@@ -3,9 +3,9 @@ use Rattle.dm_symbol.proofs.Names.{◌≡◌, ℕ, ◌<◌, ◌≤◌, List, len
 use Rattle.dm_symbol.proofs.Names.{refl, sym, ap, subst, ◌∙◌, All, false≢true, TooLong, padded, SizeChoice, SizeEntry}
 use Rattle.dm_symbol.proofs.Names.{entry_for, SymbolView, WordsView, IsLaid, words_with, AreOfSize, AreCodewordsOf}
 use Rattle.dm_symbol.proofs.Names.{first_data, FitChoice}
-use Rattle.dm_layout.proofs.symbols.Exported.{some_laid}
+use Rattle.dm_layout.proofs.symbols.Exported.{one_laid, some_laid}
 use Rattle.dm_symbol.specs.WrittenWords.{AreWrittenIn, AreWritten}
-use Rattle.dm_symbol.proofs.SymbolBelow.{held_is_one, laid_is_one}
+use Rattle.dm_symbol.proofs.SymbolBelow.{held_is_one}
 use Rattle.dm_symbol.proofs.SymbolCompletions.{checks_for, chosen_stands}
 use Rattle.dm_symbol.proofs.SymbolWriteSteps.{checks_follow, chosen_holds}
 
@@ -35,7 +35,7 @@ module _ (choice : SizeChoice) (form : List ℕ) where
       ∙ sym front) in
       let whole : words_with g.size ng.words ≡ words_with h.size nh.words =
       ap (λ s. words_with s ng.words) size ∙ ap (λ w. words_with h.size w) same in
-      laid_is_one g h (words_with h.size nh.words) (subst (λ w. IsLaid w g) whole ng.laid) nh.laid
+      one_laid (words_with h.size nh.words) g h (subst (λ w. IsLaid w g) whole ng.laid) nh.laid
 
   -- The modules in which codewords with pads and checks are laid are the symbol in which these are written.
   pub laid_are_written : (modules : SymbolView) (w : WordsView) (size : SizeEntry)

@@ -1,17 +1,12 @@
 use Rattle.dm_symbol.proofs.Names.{◌≡◌, ◌≤◌, ◌*◌, ◌∙◌, length, map, None, Ok, Err, ap, subst, sym, refl, arith, rules}
-use Rattle.dm_symbol.proofs.Names.{symbol_size, SizeEntry, codeword_count, SymbolView, data_of, row_facts, Usual}
-use Rattle.dm_symbol.proofs.Names.{Spells, Refused, BlockReading, Border, Block, IsRead, reading_of, IsRestored, IsLost}
+use Rattle.dm_symbol.proofs.Names.{SizeEntry, SymbolView, data_of, row_facts, Usual, Spells, Refused, BlockReading}
+use Rattle.dm_symbol.proofs.Names.{Border, Block, IsRead, reading_of, IsRestored, IsLost}
 use Rattle.dm_symbol.specs.declared.reading.ReadFault.TheVariants as fault
 use Rattle.dm_symbol.proofs.GridReadSteps.{block_is_read, border_is_read, fault_is_read, message_is_read}
 use Rattle.dm_symbol.proofs.Restoring.{restored_count}
 use Rattle.dm_symbol.proofs.SquareSizes.{room_for_grid}
 use Rattle.dm_symbol.proofs.SymbolBelow.{data_as_many, data_fits}
 use Rattle.dm_symbol.proofs.reading.read_by.Goals as goal
-
-pub zeros-words-requires : goal.zeros-words-requires
-zeros-words-requires g c =
-    let same = ap codeword_count c.symbol.ensures.value in
-    (search rules, omega (arith, same, c.requires.room, ap codeword_count (ap symbol_size c.size.ensures.value)))
 
 pub returns-in-Err-Border-clause-read : goal.returns-in-Err-Border-clause-read
 returns-in-Err-Border-clause-read g c =

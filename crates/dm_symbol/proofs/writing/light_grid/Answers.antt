@@ -1,8 +1,8 @@
 use Rattle.dm_symbol.proofs.Names.{◌≡◌, refl, sym, Result, Err, false≢true, row_with_side}
+use Rattle.dm_layout.specs.Sizes.{size_table}
 use Rattle.std.specs.Prelude.{IsNone}
 use Rattle.dm_layout.specs.declared.grids.grid.GridFault.{GridFault}
 use Rattle.dm_layout.specs.declared.grids.grid.GridFault.TheVariants.{NotSquare, NoSuchSize}
-use Rattle.dm_layout.specs.Sizes.{size_table}
 use Rattle.dm_symbol.proofs.writing.light_grid.Goals as goal
 
 -- There is no third fault.

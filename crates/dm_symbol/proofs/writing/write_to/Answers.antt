@@ -12,9 +12,6 @@ returns-in-Err-clause-written c = none_is_written c.args.profile c.args.message.
     (subst (λ m. most_grid_data < length (normal_form c.args.profile m)) c.items.ensures.value
     ((c.in-Err.ensures.too_long).0 refl)))
 
-pub returns-in-Err-clause-same : goal.returns-in-Err-clause-same
-returns-in-Err-clause-same c = refl
-
 pub zeros-words-requires : goal.zeros-words-requires
 zeros-words-requires c =
     let few = (row_facts c.size.result c.symbol.ensures.row).codewords in

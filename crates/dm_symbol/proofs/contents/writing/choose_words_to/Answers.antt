@@ -1,14 +1,6 @@
-use Rattle.dm_symbol.proofs.Names.{Err, sym, subst, IfOk, OnErr, TooLong, ContentView, Form, AreChosen, IsWrittenAs}
-use Rattle.dm_symbol.proofs.ChosenWords.{smallest_chosen, smallest_none, smallest_sized, smallest_stands}
+use Rattle.dm_symbol.proofs.Names.{Err, sym, subst, OnErr, TooLong, ContentView, Form, IsWrittenAs}
+use Rattle.dm_symbol.proofs.ChosenWords.{smallest_none}
 use Rattle.dm_symbol.proofs.contents.writing.choose_words_to.Goals as goal
-
-pub returns-in-Profiled-clause-chosen : goal.returns-in-Profiled-clause-chosen
-returns-in-Profiled-clause-chosen c =
-    let a = c.args in
-    let l : ContentView = record { head = a.head; items = a.items.now; marks = a.marks.now } in
-    let r = c.choose_normal_to in
-    subst (λ (f : Form). IfOk r.result (λ size. AreChosen f a.how.size l size r.new.list.items)) (sym c.in-Profiled.is)
-    r.ensures.chosen
 
 pub returns-in-Profiled-clause-none : goal.returns-in-Profiled-clause-none
 returns-in-Profiled-clause-none c =
@@ -17,26 +9,6 @@ returns-in-Profiled-clause-none c =
     let r = c.choose_normal_to in
     subst (λ (f : Form). OnErr r.result ((why : TooLong) → IsWrittenAs f a.how.size l (Err why))) (sym c.in-Profiled.is)
     r.ensures.none
-
-pub returns-in-Smallest-clause-chosen : goal.returns-in-Smallest-clause-chosen
-returns-in-Smallest-clause-chosen c =
-    let a = c.args in
-    let l : ContentView = record { head = a.head; items = a.items.now; marks = a.marks.now } in
-    let r = c.smallest_words_to in
-    subst (λ (f : Form). IfOk r.result (λ size. AreChosen f a.how.size l size r.new.words.items)) (sym c.in-Smallest.is)
-    (smallest_chosen c.in-Smallest.extent a.how.size l r.new.words.items r.result r.ensures.smallest)
-
-pub returns-in-Smallest-clause-size : goal.returns-in-Smallest-clause-size
-returns-in-Smallest-clause-size c =
-    let a = c.args in
-    let r = c.smallest_words_to in
-    smallest_stands c.in-Smallest.extent a.how.size _ r.new.words.items r.result r.ensures.smallest
-
-pub returns-in-Smallest-clause-count : goal.returns-in-Smallest-clause-count
-returns-in-Smallest-clause-count c =
-    let a = c.args in
-    let r = c.smallest_words_to in
-    smallest_sized c.in-Smallest.extent a.how.size _ r.new.words.items r.result r.ensures.smallest
 
 pub returns-in-Smallest-clause-none : goal.returns-in-Smallest-clause-none
 returns-in-Smallest-clause-none c =

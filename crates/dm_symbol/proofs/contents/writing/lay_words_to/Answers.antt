@@ -1,11 +1,5 @@
-use Rattle.dm_symbol.proofs.Names.{ap, arith, rules, SizeEntry}
 use Rattle.dm_symbol.proofs.ChosenWords.{chosen_written}
 use Rattle.dm_symbol.proofs.contents.writing.lay_words_to.Goals as goal
-
-pub lay_to-requires : goal.lay_to-requires
-lay_to-requires g c =
-    let same = ap (λ (s : SizeEntry). s.rows) c.complete_with.ensures.size in
-    (search rules, (search rules, omega (arith, c.requires.high, same)))
 
 pub returns : goal.returns
 returns g c = λ form choice content chosen.

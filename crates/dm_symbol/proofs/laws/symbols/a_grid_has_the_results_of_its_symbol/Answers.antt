@@ -3,6 +3,3 @@ use Rattle.dm_symbol.proofs.laws.symbols.a_grid_has_the_results_of_its_symbol.Go
 
 pub returns-clause-read : goal.returns-clause-read
 returns-clause-read c = result_of_symbol
-
-pub returns-clause-normal : goal.returns-clause-normal
-returns-clause-normal c profile message grid n = n.normal

@@ -1,6 +1,6 @@
-use Rattle.dm_symbol.proofs.Names.{◌≡◌, ◌≢◌, ◌∙◌, length, refl, ap, arith, rules, Ok, block_check, block_in}
+use Rattle.dm_symbol.proofs.Names.{near_but_none, length_of_block, words_with, ◌≡◌, ◌≢◌, ◌∙◌, length, refl, ap, arith}
+use Rattle.dm_symbol.proofs.Names.{rules, Ok, block_check, block_in}
 use Rattle.dm_symbol.proofs.Distances.{IsPut, put_if}
-use Rattle.dm_symbol.proofs.SymbolBelow.{block_lengths, plain_near}
 use Rattle.dm_symbol.proofs.SymbolSteps.{plain_restored}
 use Rattle.dm_symbol.proofs.symbol.correction.correct_block.Goals as goal
 use Rattle.dm_symbol.proofs.symbol.correction.correct_block.Goals.{then-changed-gt0, else-changed-gt0}
@@ -8,7 +8,7 @@ use Rattle.dm_symbol.proofs.symbol.correction.correct_block.Goals.{then-changed-
 pub returns-in_default-clause-restored : goal.returns-in_default-clause-restored
 returns-in_default-clause-restored g c =
     let w = c.args.words.now in (
-      λ n. c.in_default.ensures.near n.0 (plain_near (block_check w.size) (block_in w.size w.list c.args.b) n.0 n.1),
+      λ n. c.in_default.ensures.near n.0 (near_but_none (block_check w.size) (block_in w.size w.list c.args.b) n.0 n.1),
       refl,
     )
 
@@ -23,7 +23,7 @@ put_block-requires g c =
           arith,
           ap length c.deref.ensures.0,
           (c.in-Ok.ensures.near some).long,
-          block_lengths w.size w.list c.codeword_near.ensures.words c.args.b c.requires,
+          length_of_block (words_with w.size w.list) c.args.b c.codeword_near.ensures.words c.requires,
         ),
       ),
     )

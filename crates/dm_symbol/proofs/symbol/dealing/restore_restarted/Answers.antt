@@ -1,5 +1,6 @@
-use Rattle.dm_symbol.proofs.Names.{◌≡◌, ◌∙◌, sym, ap, subst, arith, rules, IfSome, option_map, SizeEntry, Restarted}
+use Rattle.dm_symbol.proofs.Names.{◌≡◌, ◌∙◌, sym, ap, subst, arith, rules, option_map, SizeEntry, Restarted}
 use Rattle.dm_symbol.proofs.Names.{IsDealtTwoWays, erased_by, AreOfSize, AreBlocksNear, IsFirstLost, block_readings}
+use Rattle.std.specs.Prelude.{IfSome}
 use Rattle.dm_symbol.proofs.Restarts.{is_restarted, none_restarted}
 use Rattle.dm_symbol.proofs.Restoring.{held_by_modules}
 use Rattle.dm_symbol.proofs.symbol.dealing.restore_restarted.Goals as goal

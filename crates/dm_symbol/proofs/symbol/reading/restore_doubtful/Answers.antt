@@ -1,43 +1,18 @@
-use Rattle.dm_symbol.proofs.Names.{◌≡◌, ◌∙◌, ◌<◌, ℕ, Some, erased_by, marked_in}
-use Rattle.dm_symbol.proofs.SymbolSteps.{near_moves, lost_moves, readings_move, on_ok, if_err}
+use Rattle.dm_symbol.proofs.Names.{Some, erased_by, marked_in}
+use Rattle.dm_symbol.proofs.SymbolSteps.{blocks_move}
 use Rattle.dm_symbol.proofs.symbol.reading.restore_doubtful.Goals as goal
 
-pub returns-clause-near : goal.returns-clause-near
-returns-clause-near g c =
+pub returns : goal.returns
+returns g c =
     let w = c.args.words.now in
-    let s = w.size in
-    let d = c.args.doubtful.now in
-    let dealing = c.args.dealing in
-    let marks = c.marks_for-marks.result in
-    let same : (b : ℕ) → b < s.blocks → marked_in s (Some marks) b ≡ erased_by dealing s (Some d) b =
-    c.marks_for-marks.ensures.marks in
-    on_ok c.restore_each.result
-    (near_moves s (marked_in s (Some marks)) (erased_by dealing s (Some d)) same w.list c.restore_each.new.words.list)
-    c.restore_each.ensures.near
-
-pub returns-clause-readings : goal.returns-clause-readings
-returns-clause-readings g c =
-    let w = c.args.words.now in
-    let s = w.size in
-    let d = c.args.doubtful.now in
-    let dealing = c.args.dealing in
-    let marks = c.marks_for-marks.result in
-    let same : (b : ℕ) → b < s.blocks → marked_in s (Some marks) b ≡ erased_by dealing s (Some d) b =
-    c.marks_for-marks.ensures.marks in
-    on_ok c.restore_each.result (λ e. e
-    ∙ readings_move s (marked_in s (Some marks)) (erased_by dealing s (Some d)) same w.list
-    c.restore_each.new.words.list)
-    c.restore_each.ensures.readings
-
-pub returns-clause-lost : goal.returns-clause-lost
-returns-clause-lost g c =
-    let w = c.args.words.now in
-    let s = w.size in
-    let d = c.args.doubtful.now in
-    let dealing = c.args.dealing in
-    let marks = c.marks_for-marks.result in
-    let same : (b : ℕ) → b < s.blocks → marked_in s (Some marks) b ≡ erased_by dealing s (Some d) b =
-    c.marks_for-marks.ensures.marks in
-    if_err c.restore_each.result
-    (λ b h. lost_moves s (marked_in s (Some marks)) (erased_by dealing s (Some d)) same w.list b h)
-    c.restore_each.ensures.lost
+    let moved = blocks_move w.size (marked_in w.size (Some c.marks_for-marks.result))
+    (erased_by c.args.dealing w.size (Some c.args.doubtful.now)) c.marks_for-marks.ensures.marks c.restore_each.result
+    w.list c.restore_each.new.words.list c.restore_each.new.blocks.items c.restore_each.ensures.near
+    c.restore_each.ensures.readings c.restore_each.ensures.lost in
+    record {
+      size = c.restore_each.ensures.size;
+      words = c.restore_each.ensures.words;
+      near = moved.0;
+      readings = moved.1;
+      lost = moved.2;
+    }

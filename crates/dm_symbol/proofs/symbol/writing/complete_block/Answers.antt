@@ -2,11 +2,6 @@ use Rattle.dm_symbol.proofs.Names.{◌∙◌, ◌++◌, ap, subst, take, block_d
 use Rattle.dm_symbol.proofs.SymbolWriteSteps.{checks_keep_data}
 use Rattle.dm_symbol.proofs.symbol.writing.complete_block.Goals as goal
 
-pub returns-clause-words : goal.returns-clause-words
-returns-clause-words g c =
-    subst (λ s. AreOfSize s c.put_block_checks.new.words.list) c.put_block_checks.ensures.size
-    c.put_block_checks.ensures.words
-
 pub returns-clause-data_words : goal.returns-clause-data_words
 returns-clause-data_words g c =
     let w = c.args.words.now in
