@@ -1,8 +1,8 @@
 -- Which codewords are erased, by the marks of a symbol, and that none is where no module is doubtful.
 use Rattle.dm_symbol.proofs.Names.{◌≡◌, ℕ, zero, suc, ◌+◌, ◌-◌, ◌/◌, ◌%◌, ◌^◌, ◌<◌, ◌≤◌, Bool, true, false, not, cond}
 use Rattle.dm_symbol.proofs.Names.{◌&&◌, nat_eq, List, [], ◌∷◌, length, get_or, map, Some, None, refl, sym, ap, subst}
-use Rattle.dm_symbol.proofs.Names.{◌∙◌, arith, sum_by, count_by, range_with_len, agree_below_at, length-map}
-use Rattle.dm_symbol.proofs.Names.{sum_by-cons, length-range_with_len, place, erased_places, SizeEntry, count_in_block}
+use Rattle.dm_symbol.proofs.Names.{◌∙◌, arith, sum_by, count_by, range_with_len, agree_below_at}
+use Rattle.dm_symbol.proofs.Names.{sum_by-cons, place, erased_places, SizeEntry}
 use Rattle.dm_symbol.proofs.Names.{mapping_rows, mapping_columns, codeword_count, SymbolView, WordsView}
 use Rattle.dm_symbol.proofs.Names.{places_of_block, Holds, is_fault, is_doubtful_bit, is_erased, erased_in}
 use Rattle.dm_symbol.proofs.Names.{is_sure_fault, sure_fault_count, is_mark, marked_in}
@@ -13,18 +13,9 @@ use Rattle.dm_code.specs.Erased.{erased_places_from}
 use Rattle.dm_layout.specs.symbols.Border.{border_fault_count}
 use Rattle.dm_place.specs.Holding.{bit_of}
 use Rattle.dm_place.proofs.Exported.{count_at_sides}
-use Rattle.dm_layout.proofs.symbols.Exported.{length-block_of, placed_size}
+use Rattle.dm_layout.proofs.symbols.Exported.{placed_size}
 
 -- ---- how many places a block has
-
--- A block has as many places as its share of the codewords.
-pub places_count : (B b count : ℕ) → b < B → length (places_of_block B b count) ≡ count_in_block count B b
-places_count B b count hb =
-    let words : List ℕ = range_with_len 0 count in
-    let long : length words ≡ count = length-range_with_len 0 count in
-    ap (λ n. length (places_of_block B b n)) (sym long)
-    ∙ sym (length-map (places_of_block B b (length words)) (λ j. get_or words j 0))
-    ∙ length-block_of B b words hb ∙ ap (λ n. count_in_block n B b) long
 
 -- ---- none is doubtful
 

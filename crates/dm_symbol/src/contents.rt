@@ -55,11 +55,12 @@ pub enum ContentNormalFault {
     TooLong,
 }
 
-impl<const ITEMS: usize, const MARKS: usize> ContentReadingIn<ITEMS, MARKS> {
-    /// Gives the reading of an empty content, into which a symbol can be read.
-    pub fn new() -> ContentReadingIn<ITEMS, MARKS>
-        ensures { content_reading_in result ≡ content_reading_of (as_content []) 1 Dealing.Standard [] 0 }
-    {
+// The reading of an empty content, into which a symbol can be read.
+impl<const ITEMS: usize, const MARKS: usize> Default for ContentReadingIn<ITEMS, MARKS> {
+    ghost is_default = { λ reading. content_reading_in reading
+        ≡ content_reading_of (as_content []) 1 Standard [] 0 };
+
+    fn default() -> Self {
         ContentReadingIn {
             content: ContentIn::new(),
             identifier: 1,
@@ -67,14 +68,5 @@ impl<const ITEMS: usize, const MARKS: usize> ContentReadingIn<ITEMS, MARKS> {
             blocks: ArrayVec::new(),
             border_faults: 0,
         }
-    }
-}
-
-impl<const ITEMS: usize, const MARKS: usize> Default for ContentReadingIn<ITEMS, MARKS> {
-    ghost is_default = { λ reading. content_reading_in reading
-        ≡ content_reading_of (as_content []) 1 Standard [] 0 };
-
-    fn default() -> Self {
-        ContentReadingIn::new()
     }
 }

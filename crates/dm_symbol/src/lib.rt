@@ -19,7 +19,7 @@
 //! Squares of 10 to 104 rows may be given as a [`Grid`], which is read in [`Extent::Usual`]. [`read()`] gives what a
 //! grid says, a [`Reading`]; [`write()`] the normal grid of a [`Message`]; and [`normal()`] the normal grid of what a
 //! grid says. These know no profile but [`Profile::Ascii`]; [`write_as()`] and [`normal_as()`] take any, and
-//! [`read_to()`], [`write_to()`] and [`normal_to()`] leave their results in targets, a [`Reading::new()`] and a
+//! [`read_to()`], [`write_to()`] and [`normal_to()`] leave their results in targets, a default [`Reading`] and a
 //! [`light_grid()`]. [`usual_limit()`] is the number of wrong border modules that is usually accepted.
 //!
 //! The types of the layers below are given on, among them [`GridFault`], [`Size`] with its [`table()`] of

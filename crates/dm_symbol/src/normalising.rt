@@ -29,7 +29,7 @@ pub fn normal(grid: &Grid, border_limit: u16) -> Result<Grid, NormalFault>
 pub fn normal_as(profile: Profile, grid: &Grid, border_limit: u16) -> Result<Grid, NormalFault>
     ensures { IsNormalised profile grid.now border_limit result }
 {
-    let mut reading = Reading::new();
+    let mut reading = Reading::default();
     let mut normal = light_grid();
     match normal_to(profile, grid, border_limit, &mut reading, &mut normal) {
         Ok(()) => Ok(normal),

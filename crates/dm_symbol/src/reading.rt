@@ -1,9 +1,9 @@
 //! Reading: the message that a grid says.
 
-ghost use Rattle.std.specs.Prelude.{◌≡◌, ◌≤◌, ℕ, [], length, map};
+ghost use Rattle.std.specs.Prelude.{◌≡◌, ◌≤◌, ℕ, length, map};
 ghost use Rattle.dm_layout.specs.Sizes.{codeword_count};
 ghost use Rattle.dm_words.specs.Outcomes.{outcome};
-ghost use Rattle.dm_symbol.specs.Reading.{IsRead, reading_of};
+ghost use Rattle.dm_symbol.specs.Reading.{IsRead};
 
 use crate::symbol::dealing::Dealing;
 use crate::symbol::reading::{BlockReading, Lost, ReadOptions, restore_to};
@@ -15,7 +15,8 @@ use dm_words::{Extent, Message, WordFault, message_to};
 /// How many codewords the room has that serves for small squares, up to 32 x 32.
 const FEW_CODEWORDS: usize = 98;
 
-/// What a grid says, and how much of it was wrong.
+/// What a grid says, and how much of it was wrong. The default is that of an empty message, with nothing corrected, into
+/// which [`read_to`] can read.
 #[derive(Clone, Debug, Default, Drop, PartialEq, Eq)]
 pub struct Reading {
     /// The message.
@@ -37,24 +38,11 @@ pub enum ReadFault {
     Words(WordFault),
 }
 
-impl Reading {
-    /// Gives the reading of an empty message, with nothing corrected, into which [`read_to`] can read.
-    pub fn new() -> Reading
-        ensures { result ≡ reading_of [] [] 0 }
-    {
-        Reading {
-            message: Message::new(),
-            corrected: ArrayVec::new(),
-            border_faults: 0,
-        }
-    }
-}
-
 /// Gives what a grid says in the usual extent: what [`read_to`] leaves.
 pub fn read(grid: &Grid, border_limit: u16) -> Result<Reading, ReadFault>
     ensures read { IsRead grid.now border_limit result }
 {
-    let mut reading = Reading::new();
+    let mut reading = Reading::default();
     match read_to(grid, border_limit, &mut reading) {
         Ok(()) => Ok(reading),
         Err(fault) => Err(fault),

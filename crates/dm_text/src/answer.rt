@@ -196,7 +196,7 @@ impl Targets {
     pub(crate) fn new() -> Targets {
         Targets {
             grid: light_grid(),
-            reading: Reading::new(),
+            reading: Reading::default(),
             normal: light_grid(),
         }
     }

@@ -216,7 +216,7 @@ pub(crate) fn normal_content(symbol: &Symbol) -> Option<Symbol> {
     // For the proof alone: what these ensure says that there is room.
     let _room = (size.rows(), size.data_count(), size.check_count());
     let mut words = SymbolWords::zeros(size);
-    let mut reading = ContentReading::new();
+    let mut reading = ContentReading::default();
     let mut normal = Symbol::light(size);
     match normal_content_to(
         symbol,
@@ -234,7 +234,7 @@ pub(crate) fn normal_content(symbol: &Symbol) -> Option<Symbol> {
 /// The smallest square for readers of an extent of what a symbol says as a content at `Wide` with no border fault, and
 /// none where there is none.
 pub(crate) fn smallest_content(extent: Extent, symbol: &Symbol) -> Option<Symbol> {
-    let mut reading = ContentReading::new();
+    let mut reading = ContentReading::default();
     if read_content(Extent::Wide, symbol, &mut reading).is_err() {
         return None;
     }

@@ -62,7 +62,7 @@ fn is_read(row: &Row) -> bool {
     let Some(symbol) = symbol(12, data_words) else {
         return false;
     };
-    let mut reading = ContentReading::new();
+    let mut reading = ContentReading::default();
     read_content(Extent::Wide, &symbol, &mut reading).is_ok()
         && reading.content.head() == *head
         && are_bytes(reading.content.items(), bytes)
@@ -79,7 +79,7 @@ fn symbols_are_read_as_contents(rt: HostRuntime) {
 
 /// The fault with which a symbol is refused as a content in an extent.
 fn fault_of(extent: Extent, data_words: &[u8]) -> Option<ContentReadFault> {
-    let mut reading = ContentReading::new();
+    let mut reading = ContentReading::default();
     match read_content(extent, &symbol(12, data_words)?, &mut reading) {
         Ok(()) => None,
         Err(fault) => Some(fault),

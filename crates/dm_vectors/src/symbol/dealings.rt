@@ -141,7 +141,7 @@ fn corrected(count: u8) -> BlockReading {
 
 /// Whether the symbol of these codewords is read as the contents by this dealing, with so many wrong in each block.
 fn is_read(list: &List, extent: Extent, dealing: Dealing, count: u8) -> bool {
-    let mut reading = ContentReading::new();
+    let mut reading = ContentReading::default();
     read(list, extent, &mut reading) == Some(Ok(()))
         && are_contents(reading.content.items())
         && reading.dealing == dealing
@@ -150,7 +150,7 @@ fn is_read(list: &List, extent: Extent, dealing: Dealing, count: u8) -> bool {
 
 /// Whether the symbol of these codewords is refused for this block.
 fn is_refused(list: &List, extent: Extent, b: u8) -> bool {
-    let mut reading = ContentReading::new();
+    let mut reading = ContentReading::default();
     read(list, extent, &mut reading) == Some(Err(ContentReadFault::Block(b)))
 }
 
@@ -267,7 +267,7 @@ fn is_read_without_checks(dealing: Dealing) -> bool {
         erased: 62,
         left: 0,
     };
-    let mut reading = ContentReading::new();
+    let mut reading = ContentReading::default();
     read_symbol(&symbol, how, &mut reading) == Some(Ok(()))
         && are_contents(reading.content.items())
         && reading.dealing == dealing

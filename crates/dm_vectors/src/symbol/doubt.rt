@@ -44,7 +44,7 @@ fn is_read(reading: &mut ContentReading, words: &[u8; 8], erased: u8) -> bool {
 /// Twice as many codewords are restored where it is known which are wrong, also into what held another reading.
 #[test]
 fn restores_as_many_codewords_as_there_are_checks(rt: HostRuntime) {
-    let mut reading = ContentReading::new();
+    let mut reading = ContentReading::default();
     holds(
         &rt,
         is_read(&mut reading, &[17, 164, 186, 114, 25, 5, 88, 102], 1),
@@ -69,7 +69,7 @@ fn restores_as_many_codewords_as_there_are_checks(rt: HostRuntime) {
 fn counts_no_doubtful_border_cell(rt: HostRuntime) {
     let right = grid_of(10, &DIGITS);
     let doubtful = unlike(&plain(10, false), &plain(10, true));
-    let mut reading = ContentReading::new();
+    let mut reading = ContentReading::default();
     let wrong = plain(10, false);
     holds(
         &rt,

@@ -41,7 +41,7 @@ static ROWS: [(u16, &[u8], WordFault, &[u8]); 6] = [
 
 /// Whether the grid says these bytes and has this normal grid, in the usual extent, and leaves both in targets.
 fn says_usually(grid: &Grid, text: &[u8], normal: &Grid) -> bool {
-    let (mut reading, mut target) = (Reading::new(), light_grid());
+    let (mut reading, mut target) = (Reading::default(), light_grid());
     read_to(grid, 0, &mut reading).is_ok()
         && has_bytes(&reading.message, text)
         && normal_to(Profile::Ascii, grid, 0, &mut reading, &mut target).is_ok()
@@ -54,7 +54,7 @@ fn says_widely(grid: &Grid, text: &[u8], normal: &Grid) -> bool {
     let (Some(symbol), Some(normal)) = (symbol_of(grid), symbol_of(normal)) else {
         return false;
     };
-    let mut reading = ContentReading::new();
+    let mut reading = ContentReading::default();
     read_content(Extent::Wide, &symbol, &mut reading).is_ok()
         && reading.content.head().is_none()
         && reading.content.marks().is_empty()
@@ -112,7 +112,7 @@ fn says_most(grid: &Grid) -> bool {
     let Some(symbol) = symbol_of(grid) else {
         return false;
     };
-    let mut reading = ContentReading::new();
+    let mut reading = ContentReading::default();
     read_content(Extent::Wide, &symbol, &mut reading).is_ok()
         && reading.content.items().len() == MESSAGE_ROOM
         && normal_rows(&symbol) == 120

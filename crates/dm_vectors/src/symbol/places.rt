@@ -81,7 +81,7 @@ fn is_too_long_for_ascii(places: &mut Places) -> bool {
 #[test]
 fn results_in_places(rt: HostRuntime) {
     let mut places = Places {
-        reading: Reading::new(),
+        reading: Reading::default(),
         grid: light_grid(),
         normal_grid: light_grid(),
     };
