@@ -1,6 +1,6 @@
 -- The results of reading a symbol of any size as a content, from the restored codewords; and what a
 -- result says.
-use Rattle.dm_symbol.proofs.Names.{◌≡◌, ◌↔◌, ℕ, ◌<◌, List, Option, Result, Ok, Err, refl, sym, ap, subst, ◌∙◌, Extent}
+use Rattle.dm_symbol.proofs.Names.{◌≡◌, ◌↔◌, ℕ, ◌<◌, List, Option, Result, Ok, Err, refl, ap, subst, ◌∙◌, Extent}
 use Rattle.dm_symbol.proofs.Names.{ContentView, Says, IsRefused, SymbolView, WordsView, data_of, ContentReadFault}
 use Rattle.dm_symbol.proofs.Names.{BlockReading, Dealing, sure_fault_count, first_data, readings_by, ContentReadingView}
 use Rattle.dm_symbol.proofs.Names.{ContentReadResult, ReadsContent, content_reading_of, IsIdentifier, Border, Block}
@@ -10,26 +10,6 @@ use Rattle.dm_words.specs.declared.contents.fault.ContentFault.{ContentFault}
 use Rattle.dm_symbol.specs.declared.contents.ContentReadFault.TheVariants as fault
 use Rattle.dm_symbol.proofs.ContentReadings.{one_content_result, content_by_result, reads_content_by_result}
 use Rattle.dm_symbol.proofs.Restoring.{restored_data}
-
--- Equal faults of the border have equal numbers of modules.
-same_border : (a b : ℕ)
-    → ◌≡◌ {A = Result ContentReadingView ContentReadFault} (Err (fault.Border a)) (Err (fault.Border b)) → a ≡ b
-same_border a b e = cc
-
--- The fault of a block isn't one of the border.
-block_no_border : (n b : ℕ)
-    → ◌≡◌ {A = Result ContentReadingView ContentReadFault} (Err (fault.Block b)) (Err (fault.Border n)) → ⊥
-block_no_border n b e = cc
-
--- The fault of data codewords isn't one of the border.
-words_no_border : (n : ℕ) (why : ContentFault)
-    → ◌≡◌ {A = Result ContentReadingView ContentReadFault} (Err (fault.Words why)) (Err (fault.Border n)) → ⊥
-words_no_border n why e = cc
-
--- A reading isn't a fault of the border.
-content_no_border : (n : ℕ) (r : ContentReadingView)
-    → ◌≡◌ {A = Result ContentReadingView ContentReadFault} (Ok r) (Err (fault.Border n)) → ⊥
-content_no_border n r e = cc
 
 module _ (extent : Extent) (modules : SymbolView) (doubtful : Option SymbolView) (limit : ℕ) where
   -- The surely wrong modules of the borders.
@@ -97,12 +77,10 @@ module _ (extent : Extent) (modules : SymbolView) (doubtful : Option SymbolView)
       told : (result : Result ContentReadingView ContentReadFault) → ContentReadResult extent modules doubtful limit
           result
           → result ≡ Err (fault.Border count) → (limit < faults) × (count ≡ faults)
-      told result (ContentReadResult.border more e) f = (more, same_border count faults (sym f ∙ e))
-      told result (ContentReadResult.block u b few lost e) f = absurd (block_no_border count b (sym e ∙ f))
-      told result (ContentReadResult.words d u c why few hu refused e) f = absurd
-          (words_no_border count why (sym e ∙ f))
-      told result (ContentReadResult.content d u c x n few hu said is e) f = absurd
-          (content_no_border count _ (sym e ∙ f))
+      told result (ContentReadResult.border more e) f = (more, cc)
+      told result (ContentReadResult.block u b few lost e) f = absurd cc
+      told result (ContentReadResult.words d u c why few hu refused e) f = absurd cc
+      told result (ContentReadResult.content d u c x n few hu said is e) f = absurd cc
 
   -- The result defined for a symbol is what reading it gives.
   pub is_content_read : (result : Result ContentReadingView ContentReadFault)

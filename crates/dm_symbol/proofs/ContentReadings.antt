@@ -180,21 +180,13 @@ module _ (modules : SymbolView) (doubtful : Option SymbolView) where
 
 -- ---- the two extents
 
--- A reading isn't a fault.
-ok_no_fault : (reading : ContentReadingView) (why : ContentReadFault)
-    → ◌≡◌ {A = Result ContentReadingView ContentReadFault} (Ok reading) (Err why) → ⊥
-ok_no_fault reading why e = cc
-
 -- What is read in the extent `Usual` is read in `Wide` with the same result.
 pub wide_reads_the_usual_content : (modules : SymbolView) (doubtful : Option SymbolView) (limit : ℕ)
     (reading : ContentReadingView) → ContentReadResult Usual modules doubtful limit (Ok reading)
     → ContentReadResult Wide modules doubtful limit (Ok reading)
-wide_reads_the_usual_content modules doubtful limit reading (ContentReadResult.border h e) =
-    absurd (ok_no_fault reading _ e)
-wide_reads_the_usual_content modules doubtful limit reading (ContentReadResult.block u x h lost e) =
-    absurd (ok_no_fault reading _ e)
-wide_reads_the_usual_content modules doubtful limit reading (ContentReadResult.words d u c why h hu r e) =
-    absurd (ok_no_fault reading _ e)
+wide_reads_the_usual_content modules doubtful limit reading (ContentReadResult.border h e) = absurd cc
+wide_reads_the_usual_content modules doubtful limit reading (ContentReadResult.block u x h lost e) = absurd cc
+wide_reads_the_usual_content modules doubtful limit reading (ContentReadResult.words d u c why h hu r e) = absurd cc
 wide_reads_the_usual_content modules doubtful limit reading (ContentReadResult.content d u c x n h hu s i e) =
     ContentReadResult.content d u c x n h (restored_wide modules doubtful Usual d u c hu)
     (said_wide Usual (first_data modules.size c) x s) i e

@@ -1,9 +1,9 @@
 -- Counts of the cells of a square.
 use Rattle.dm_symbol.proofs.Names.{◌≡◌, ℕ, zero, suc, ◌+◌, ◌<◌, ◌≤◌, Bool, true, false, not, ◌&&◌, cond, eqb, List}
 use Rattle.dm_symbol.proofs.Names.{get_or, inl, inr, refl, sym, subst, arith, range_with_len, sum_by, count_by}
-use Rattle.dm_symbol.proofs.Names.{sum_by-cons, cases_Bool, cases_eq, eqb-true, eq-eqb, and_parts, and_from}
-use Rattle.dm_symbol.proofs.Names.{differs_same, differs_le}
-use Rattle.std.proofs.lemmas.Bool.{cond-true, cond-false, and_right, not_from_false, not_from_true}
+use Rattle.dm_symbol.proofs.Names.{sum_by-cons, cases_eq, eqb-true, eq-eqb, and_parts, and_from, differs_same}
+use Rattle.dm_symbol.proofs.Names.{differs_le}
+use Rattle.std.proofs.lemmas.Bool.{cases_Bool, cond-true, cond-false, and_right, not_from_false, not_from_true}
 use Rattle.dm_code.specs.Codeword.{differing}
 use Rattle.dm_layout.proofs.Exported.{summands_zero}
 

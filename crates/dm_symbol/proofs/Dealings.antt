@@ -31,17 +31,11 @@ size_is size h two =
 
 -- The standard's dealing isn't the other.
 pub not_restarted : {X : Type 0} → ◌≡◌ {A = Dealing} Standard Restarted → X
-not_restarted e = absurd (differ e)
-  where
-    differ : ◌≡◌ {A = Dealing} Standard Restarted → ⊥
-    differ f = cc
+not_restarted e = absurd cc
 
 -- The extent `Usual` isn't `Wide`.
 pub not_wide : {X : Type 0} → ◌≡◌ {A = Extent} Usual Wide → X
-not_wide e = absurd (differ e)
-  where
-    differ : ◌≡◌ {A = Extent} Usual Wide → ⊥
-    differ f = cc
+not_wide e = absurd cc
 
 -- ---- codewords
 

@@ -6,9 +6,9 @@ use Rattle.dm_symbol.proofs.Names.{SymbolView, is_fault, places_of_block, Dealin
 use Rattle.dm_symbol.proofs.Names.{SymbolInspectionIn, is_doubtful_bit, is_erased, erased_in, is_sure_fault}
 use Rattle.dm_symbol.proofs.Names.{sure_fault_count, dealt, erased_by, restarted_place, IsTried, AreRestored, AreLost}
 use Rattle.dm_symbol.proofs.Names.{IsFirstLost, readings_by, IsSymbolInspection, AreLight}
-use Rattle.dm_symbol.proofs.SymbolDoubt.{same_counts, erased_nowhere, same_any}
 use Rattle.dm_layout.specs.symbols.Symbols.{rows_of}
 use Rattle.dm_symbol.specs.Doubt.{is_doubtful}
+use Rattle.dm_symbol.proofs.SymbolDoubt.{same_counts, erased_nowhere, same_any}
 use Rattle.dm_place.specs.Border.{symbol_line}
 use Rattle.dm_symbol.proofs.Dealings.{erased_by_nothing}
 use Rattle.dm_symbol.proofs.SymbolSteps.{near_moves, lost_moves, mended_moves, readings_move}

@@ -14,7 +14,7 @@ pub use Rattle.dm_layout.specs.symbols.Blocks.{block_of, places_of_block}
 pub use Rattle.dm_layout.specs.symbols.Border.{is_fault}
 pub use Rattle.dm_layout.specs.symbols.Holding.{Holds, IsLaid}
 pub use Rattle.dm_layout.specs.symbols.Sizes.{IsSize, SizeEntry, block_check, block_data, block_length, codeword_count}
-pub use Rattle.dm_layout.specs.symbols.Sizes.{count_in_block, entry_for, entry_of, mapping_columns, mapping_rows}
+pub use Rattle.dm_layout.specs.symbols.Sizes.{entry_for, entry_of, mapping_columns, mapping_rows}
 pub use Rattle.dm_layout.specs.symbols.Symbols.{IsSymbol, SymbolView}
 pub use Rattle.dm_layout.specs.symbols.Words.{WordsView, data_of}
 pub use Rattle.dm_place.specs.Placement.{place}
@@ -70,13 +70,12 @@ pub use Rattle.std.proofs.Common.{below_more, cond, eqb, false, get_or, inl, inr
 pub use Rattle.std.proofs.Common.{refl, replicate, rules, subst, suc, sym, take, true, zero, ℕ, ◌%◌, ◌&&◌, ◌*◌, ◌++◌}
 pub use Rattle.std.proofs.Common.{◌+◌, ◌-◌, ◌/◌, ◌<◌, ◌^◌, ◌↔◌, ◌∙◌, ◌∷◌, ◌≡◌, ◌≢◌, ◌≤◌, ◌⊎◌}
 pub use Rattle.std.proofs.Math.Seq.{take-append_seam}
-pub use Rattle.std.proofs.lemmas.Bool.{agree_below_at, and_from, and_parts, cases_Bool, cases_eq, cases_lt, cond_above}
-pub use Rattle.std.proofs.lemmas.Bool.{cond_below, eq-eqb, eqb-true, false≢true}
+pub use Rattle.std.proofs.lemmas.Bool.{agree_below_at, and_from, and_parts, cases_eq, cases_lt, cond_above, cond_below}
+pub use Rattle.std.proofs.lemmas.Bool.{eq-eqb, eqb-true, false≢true}
 pub use Rattle.std.proofs.lemmas.List.{ext_get_or, get_or-take, get_or_append_left, get_or_push, length-append}
 pub use Rattle.std.proofs.lemmas.List.{length-map, length-take, length-take-le, length_push}
 pub use Rattle.std.proofs.lemmas.List.Elements.{All-from_get_or, All-get_or, All-take}
 pub use Rattle.std.proofs.lemmas.List.FromFn.{get_or-map-range_with_len, length-map-range_with_len}
-pub use Rattle.std.proofs.lemmas.List.FromFn.{length-range_with_len}
 pub use Rattle.std.proofs.lemmas.List.Sums.{sum_by-cons}
 pub use Rattle.std.specs.List.{All, AllByRecursion, range_with_len}
 pub use Rattle.std.specs.Prelude.{IfOk, OnErr, OnOk, count_by, find, option_map, sum_by}

@@ -13,23 +13,6 @@ pub record AreApart {N F E : Type 0} (read : F → E) (long : E) (has : N → Ty
   pub none_or_refused : (why : F) → has_none → refused why → ⊥
   pub one_refused : (why other : F) → refused why → refused other → why ≡ other
 
-module _ {N E : Type 0} where
-  -- Equal results that are normal are equal ones.
-  ok_is : (a b : N) → ◌≡◌ {A = Result N E} (Ok a) (Ok b) → a ≡ b
-  ok_is a b e = cc
-
-  -- Equal faults are equal results.
-  err_is : (a b : E) → ◌≡◌ {A = Result N E} (Err a) (Err b) → a ≡ b
-  err_is a b e = cc
-
-  -- A fault isn't a normal one.
-  err_no_ok : (a : N) (f : E) → ◌≡◌ {A = Result N E} (Err f) (Ok a) → ⊥
-  err_no_ok a f e = cc
-
-  -- A normal one isn't a fault.
-  ok_no_err : (a : N) (f : E) → ◌≡◌ {A = Result N E} (Ok a) (Err f) → ⊥
-  ok_no_err a f e = cc
-
 module _ {N F E : Type 0} (read : F → E) (long : E) (has : N → Type 0) (has_none : Type 0) (refused : F → Type 0)
     (apart : AreApart read long has has_none refused) where
   -- There is at most one result.
@@ -54,26 +37,23 @@ module _ {N F E : Type 0} (read : F → E) (long : E) (has : N → Type 0) (has_
   -- Where the result is a normal one, there is that one.
   pub told_normal : (n : N) (result : Result N E) → IsNormalOrFault read long has has_none refused result
       → result ≡ Ok n → has n
-  told_normal n result (IsNormalOrFault.normal o h e) f = subst has (ok_is o n (sym e ∙ f)) h
-  told_normal n result (IsNormalOrFault.too_long h e) f = absurd (err_no_ok n long (sym e ∙ f))
-  told_normal n result (IsNormalOrFault.fault why h e) f = absurd (err_no_ok n (read why) (sym e ∙ f))
+  told_normal n result (IsNormalOrFault.normal o h e) f = let same : o ≡ n = cc in subst has same h
+  told_normal n result (IsNormalOrFault.too_long h e) f = absurd cc
+  told_normal n result (IsNormalOrFault.fault why h e) f = absurd cc
 
   -- Where the result is that there is none, there is none.
   told_none : (result : Result N E) → IsNormalOrFault read long has has_none refused result → result ≡ Err long
       → has_none
-  told_none result (IsNormalOrFault.normal o h e) f = absurd (ok_no_err o long (sym e ∙ f))
+  told_none result (IsNormalOrFault.normal o h e) f = absurd cc
   told_none result (IsNormalOrFault.too_long h e) f = h
-  told_none result (IsNormalOrFault.fault why h e) f =
-      absurd (apart.read_no_long why (err_is {N = N} (read why) long (sym e ∙ f)))
+  told_none result (IsNormalOrFault.fault why h e) f = absurd (apart.read_no_long why cc)
 
   -- Where the result is a fault of reading, it is that of reading.
   told_fault : (why : F) (result : Result N E) → IsNormalOrFault read long has has_none refused result
       → result ≡ Err (read why) → refused why
-  told_fault why result (IsNormalOrFault.normal o h e) f = absurd (ok_no_err o (read why) (sym e ∙ f))
-  told_fault why result (IsNormalOrFault.too_long h e) f =
-      absurd (apart.read_no_long why (err_is {N = N} (read why) long (sym f ∙ e)))
-  told_fault why result (IsNormalOrFault.fault other h e) f =
-      subst refused (apart.same_read other why (err_is {N = N} (read other) (read why) (sym e ∙ f))) h
+  told_fault why result (IsNormalOrFault.normal o h e) f = absurd cc
+  told_fault why result (IsNormalOrFault.too_long h e) f = absurd (apart.read_no_long why cc)
+  told_fault why result (IsNormalOrFault.fault other h e) f = subst refused (apart.same_read other why cc) h
 
   -- The result defined is what normalising gives.
   pub is_normal_given : (result : Result N E) → IsNormalOrFault read long has has_none refused result

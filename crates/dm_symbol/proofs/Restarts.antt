@@ -7,8 +7,8 @@ use Rattle.dm_symbol.proofs.Names.{IsDealtTwoWays, dealt, erased_by, AreOfSize, 
 use Rattle.dm_symbol.proofs.Names.{block_in, AreRestoredBy, AreRestored, IsFirstLost, IsBlockRestored, AreBlocksMended}
 use Rattle.dm_symbol.proofs.Names.{block_reading, block_readings, IsSymbolInspection, IsRestarted, IsRestartShown}
 use Rattle.dm_symbol.proofs.Names.{turned}
-use Rattle.dm_symbol.proofs.Restoring.{held_by_modules, readings_count}
 use Rattle.std.proofs.lemmas.List.{get_or-map}
+use Rattle.dm_symbol.proofs.Restoring.{held_by_modules, readings_count}
 use Rattle.dm_symbol.proofs.Dealings.{dealt_back, dealt_is_turned, not_restarted, turned_of_size}
 use Rattle.dm_symbol.proofs.SymbolBelow.{held_is_one}
 use Rattle.dm_symbol.proofs.RestoredOrLost.{near_or_first_lost}
@@ -25,7 +25,6 @@ module _ (modules : SymbolView) (doubtful : Option SymbolView) (held : List ℕ)
       → blocks ≡ block_readings modules.size (erased_by Restarted modules.size doubtful) turn restored
       → back.size ≡ modules.size → back.list ≡ turned 2 restored → IsRestarted modules doubtful back blocks
   is_restarted turn restored back blocks turns of_size near said same turns_back =
-      let places = erased_by Restarted modules.size doubtful in
       let there : turn ≡ dealt Restarted modules.size held =
       turns ∙ sym (dealt_is_turned modules.size two held are_held.codewords) in
       let here : restored ≡ dealt Restarted modules.size back.list =
@@ -38,11 +37,9 @@ module _ (modules : SymbolView) (doubtful : Option SymbolView) (held : List ℕ)
           words_held = are_held;
           of_size = subst (AreOfSize modules.size) (sym turns_back)
               (turned_of_size modules.size two 2 restored of_size);
-          near = subst (λ r. AreBlocksNear modules.size places (dealt Restarted modules.size held) r) here
-              (subst (λ t. AreBlocksNear modules.size places t restored) there near);
+          near = rw (there, here) at near;
         };
-        readings = said ∙ ap (λ t. block_readings modules.size places t restored) there
-            ∙ ap (λ r. block_readings modules.size places (dealt Restarted modules.size held) r) here;
+        readings = rw (there, here) at said;
       }
 
   -- Where a block of the turned words is lost, the other dealing restores nothing.
@@ -53,8 +50,7 @@ module _ (modules : SymbolView) (doubtful : Option SymbolView) (held : List ℕ)
       let there : dealt Restarted modules.size other ≡ turn =
       ap (dealt Restarted modules.size) (held_is_one modules other held r.words_held are_held)
       ∙ dealt_is_turned modules.size two held are_held.codewords ∙ sym turns in
-      let near = subst (λ t. AreBlocksNear modules.size (erased_by Restarted modules.size doubtful) t
-      (dealt Restarted modules.size codewords)) there r.near in
+      let near = rw there at r.near in
       first.lost (block_in modules.size (dealt Restarted modules.size codewords) b, near b first.in_symbol)
 
 -- ---- showing

@@ -1,10 +1,11 @@
 -- The codewords of a symbol of any size, from what was lifted and restored.
 use Rattle.dm_symbol.proofs.Names.{◌≡◌, ℕ, ◌≤◌, List, length, Option, ap, subst, ◌∙◌, range_with_len, length-map}
-use Rattle.dm_symbol.proofs.Names.{length-range_with_len, Extent, Wide, SizeEntry, block_check, SymbolView, WordsView}
-use Rattle.dm_symbol.proofs.Names.{data_of, Holds, Dealing, Standard, Restarted, BlockReading, Block, sure_fault_count}
-use Rattle.dm_symbol.proofs.Names.{erased_in, IsDealtTwoWays, dealt, erased_by, words_with, AreOfSize, AreHeldBy}
-use Rattle.dm_symbol.proofs.Names.{AreBlocksNear, block_in, first_data, AreRestoredBy, IsFirstLost, block_reading}
-use Rattle.dm_symbol.proofs.Names.{block_readings, IsRestored, IsRestarted, IsLost}
+use Rattle.dm_symbol.proofs.Names.{Extent, Wide, SizeEntry, block_check, SymbolView, WordsView, data_of, Holds, Dealing}
+use Rattle.dm_symbol.proofs.Names.{Standard, Restarted, BlockReading, Block, sure_fault_count, erased_in}
+use Rattle.dm_symbol.proofs.Names.{IsDealtTwoWays, dealt, erased_by, words_with, AreOfSize, AreHeldBy, AreBlocksNear}
+use Rattle.dm_symbol.proofs.Names.{block_in, first_data, AreRestoredBy, IsFirstLost, block_reading, block_readings}
+use Rattle.dm_symbol.proofs.Names.{IsRestored, IsRestarted, IsLost}
+use Rattle.std.proofs.lemmas.List.FromFn.{length-range_with_len}
 use Rattle.dm_symbol.proofs.SymbolBelow.{held_is_one}
 
 -- Words that modules hold are codewords of a symbol of their size.
@@ -28,7 +29,7 @@ module _ (extent : Extent) (modules : SymbolView) (doubtful : Option SymbolView)
   first_of_modules : (w : WordsView) (b : ℕ) → Holds modules w
       → IsFirstLost w.size (erased_in w.size doubtful) w.list b
       → IsFirstLost modules.size (erased_in modules.size doubtful) w.list b
-  first_of_modules w b h first = subst (λ s. IsFirstLost s (erased_in s doubtful) w.list b) h.same_size first
+  first_of_modules w b h first = rw h.same_size at first
 
   -- Where a block can't be restored, and the other dealing restores nothing where it is tried, the symbol is lost by
   -- the first such block.
@@ -62,11 +63,11 @@ module _ (extent : Extent) (modules : SymbolView) (doubtful : Option SymbolView)
       tried = tt;
       by = record {
         words_held = held_by_modules modules w h;
-        of_size = subst (λ s. AreOfSize s v.list) h.same_size of_size;
-        near = subst (λ s. AreBlocksNear s (erased_in s doubtful) w.list v.list) h.same_size near;
+        of_size = rw h.same_size at of_size;
+        near = rw h.same_size at near;
       };
     };
-    readings = subst (λ s. blocks ≡ block_readings s (erased_in s doubtful) w.list v.list) h.same_size said;
+    readings = rw h.same_size at said;
   }
 
   -- Where a block is lost in the extent `Wide`, they are restored to what the other dealing gives.

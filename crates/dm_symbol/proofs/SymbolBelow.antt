@@ -1,10 +1,11 @@
 -- What the layers below promise of symbols of any size, as the proofs here cite it.
 use Rattle.dm_symbol.proofs.Names.{◌≡◌, ℕ, ◌+◌, ◌*◌, ◌<◌, ◌≤◌, List, [], length, get_or, refl, ap, ◌∙◌, arith}
 use Rattle.dm_symbol.proofs.Names.{ext_get_or, length-take, length-take-le, distance, distance_but, SizeEntry, IsSize}
-use Rattle.dm_symbol.proofs.Names.{count_in_block, codeword_count, block_data, block_check, block_length, SymbolView}
-use Rattle.dm_symbol.proofs.Names.{WordsView, data_of, size_facts, words_with, AreOfSize, AreHeldBy, block_in}
-use Rattle.dm_symbol.proofs.Names.{length_of_block, word_of_block}
+use Rattle.dm_symbol.proofs.Names.{codeword_count, block_data, block_check, block_length, SymbolView, WordsView}
+use Rattle.dm_symbol.proofs.Names.{data_of, size_facts, words_with, AreOfSize, AreHeldBy, block_in, length_of_block}
+use Rattle.dm_symbol.proofs.Names.{word_of_block}
 use Rattle.dm_code.specs.Erased.{blank}
+use Rattle.dm_layout.specs.symbols.Sizes.{count_in_block}
 use Rattle.dm_layout.specs.symbols.Words.{IsWords}
 use Rattle.dm_layout.proofs.symbols.Exported.{one_held, short_block, some_block_data, block_parts}
 
@@ -61,7 +62,8 @@ only_block size words h one b hb =
     omega (arith, length_of_block (words_with size words) b h hb, whole, h.count) in
     ext_get_or 0 (block_in size words b) words long (λ i hi.
     let here : i * size.blocks + b ≡ i = omega (arith, ap (λ n. i * n) one, one, hb) in
-    word_of_block (words_with size words) b i h hb (omega (arith, hi, long, whole, h.count)) ∙ ap (λ j. get_or words j 0) here)
+    word_of_block (words_with size words) b i h hb (omega (arith, hi, long, whole, h.count))
+    ∙ ap (λ j. get_or words j 0) here)
 
 -- Where a symbol has one block, it has few codewords.
 pub only_short : (size : SizeEntry) (words : List ℕ) → AreOfSize size words → size.blocks ≡ 1

@@ -1,10 +1,9 @@
 -- Which codewords are erased, by the marks of a symbol, and that none is where no module is doubtful.
 use Rattle.dm_symbol.proofs.Names.{◌≡◌, ℕ, zero, suc, ◌+◌, ◌-◌, ◌/◌, ◌%◌, ◌^◌, ◌<◌, ◌≤◌, Bool, true, false, not, cond}
 use Rattle.dm_symbol.proofs.Names.{◌&&◌, nat_eq, List, [], ◌∷◌, length, get_or, map, Some, None, refl, sym, ap, subst}
-use Rattle.dm_symbol.proofs.Names.{◌∙◌, arith, sum_by, count_by, range_with_len, agree_below_at}
-use Rattle.dm_symbol.proofs.Names.{sum_by-cons, place, erased_places, SizeEntry}
-use Rattle.dm_symbol.proofs.Names.{mapping_rows, mapping_columns, codeword_count, SymbolView, WordsView}
-use Rattle.dm_symbol.proofs.Names.{places_of_block, Holds, is_fault, is_doubtful_bit, is_erased, erased_in}
+use Rattle.dm_symbol.proofs.Names.{◌∙◌, arith, sum_by, count_by, range_with_len, agree_below_at, sum_by-cons, place}
+use Rattle.dm_symbol.proofs.Names.{erased_places, SizeEntry, mapping_rows, mapping_columns, codeword_count, SymbolView}
+use Rattle.dm_symbol.proofs.Names.{WordsView, places_of_block, Holds, is_fault, is_doubtful_bit, is_erased, erased_in}
 use Rattle.dm_symbol.proofs.Names.{is_sure_fault, sure_fault_count, is_mark, marked_in}
 use Rattle.std.proofs.Common.{◌||◌, filter}
 use Rattle.std.specs.List.{list_any}

@@ -5,8 +5,8 @@ use Rattle.dm_symbol.proofs.Names.{SizeEntry, block_check, block_length, SymbolV
 use Rattle.dm_symbol.proofs.Names.{erased_in, IsDealtTwoWays, dealt, erased_by, words_with, AreOfSize, AreHeldBy}
 use Rattle.dm_symbol.proofs.Names.{AreBlocksNear, block_in, first_data, AreRestoredBy, IsTried, AreRestored, AreLost}
 use Rattle.dm_symbol.proofs.Names.{IsFirstLost}
-use Rattle.dm_code.proofs.Exported.{near_but_one}
 use Rattle.dm_layout.proofs.symbols.Exported.{place_inside, same_by_blocks}
+use Rattle.dm_code.proofs.Exported.{near_but_one}
 use Rattle.std.proofs.lemmas.Bool.{cases_order}
 use Rattle.dm_symbol.proofs.SymbolBelow.{block_facts, held_is_one}
 use Rattle.dm_symbol.proofs.Dealings.{dealt_of_size, not_restarted, same_dealt}

@@ -14,10 +14,7 @@ use Rattle.dm_symbol.proofs.SymbolBelow.{distance_plain}
 reading_by : (a b c x y z : ℕ) → a ≡ x → b ≡ y → c ≡ z
     → ◌≡◌ {A = BlockReading} (record { corrected = a; erased = b; left = c })
     (record { corrected = x; erased = y; left = z })
-reading_by a b c x y z ea eb ec =
-    ap (λ n. let r : BlockReading = record { corrected = n; erased = b; left = c } in r) ea
-    ∙ ap (λ n. let r : BlockReading = record { corrected = x; erased = n; left = c } in r) eb
-    ∙ ap (λ n. let r : BlockReading = record { corrected = x; erased = y; left = n } in r) ec
+reading_by a b c x y z ea eb ec = cc
 
 -- Numbers that use up the check codewords of a block are what is said of it.
 pub reading_is : (k corrected erased left : ℕ) (places block codeword : List ℕ)

@@ -4,8 +4,8 @@ use Rattle.dm_symbol.proofs.Names.{inl, inr, refl, sym, ap, subst, ◌∙◌, ar
 use Rattle.dm_symbol.proofs.Names.{take-append_seam, IsCodeword, distance, SizeChoice, SizeEntry, entry_for, block_data}
 use Rattle.dm_symbol.proofs.Names.{block_check, block_of, same_data_by_blocks, words_with, AreOfSize, AreCodewordsOf}
 use Rattle.dm_symbol.proofs.Names.{block_in, first_data}
-use Rattle.dm_code.proofs.Exported.{codewords_one}
 use Rattle.dm_layout.proofs.symbols.Exported.{data_of_block, enough}
+use Rattle.dm_code.proofs.Exported.{codewords_one}
 use Rattle.dm_symbol.proofs.Distances.{differing_prefix}
 use Rattle.dm_symbol.proofs.SymbolBelow.{block_facts}
 use Rattle.dm_symbol.proofs.SymbolReadings.{equal_blocks}

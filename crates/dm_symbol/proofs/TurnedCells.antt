@@ -1,12 +1,12 @@
 -- A normal grid of which some cells are turned over is still read.
 use Rattle.dm_symbol.proofs.Names.{near_none_but, ◌≡◌, ℕ, zero, suc, ◌+◌, ◌-◌, ◌*◌, ◌/◌, ◌%◌, ◌^◌, ◌<◌, ◌≤◌, Bool, true}
 use Rattle.dm_symbol.proofs.Names.{false, not, ◌&&◌, eqb, List, get_or, None, inl, inr, refl, sym, ap, subst, ◌∙◌}
-use Rattle.dm_symbol.proofs.Names.{arith, cases_Bool, cases_eq, cases_lt, eqb-true, false≢true, Extent, Usual, Item}
-use Rattle.dm_symbol.proofs.Names.{Profile, IsNear, distance, IsNearBut, Square, SizeRow, IsRow, GridView, IsGrid}
-use Rattle.dm_symbol.proofs.Names.{symbol_modules, block_check, SymbolView, border_fault_count, row_facts, same_row}
-use Rattle.dm_symbol.proofs.Names.{as_content, IsMessage, Standard, sure_fault_count, AreHeldBy, AreOfSize, block_in}
-use Rattle.dm_symbol.proofs.Names.{AreRestored, IsNormalGrid, Reads}
-use Rattle.std.proofs.lemmas.Bool.{eqb-false, true≢false}
+use Rattle.dm_symbol.proofs.Names.{arith, cases_eq, false≢true, Extent, Usual, Item, Profile, IsNear, distance}
+use Rattle.dm_symbol.proofs.Names.{IsNearBut, Square, SizeRow, IsRow, GridView, IsGrid, symbol_modules, block_check}
+use Rattle.dm_symbol.proofs.Names.{SymbolView, border_fault_count, row_facts, same_row, as_content, IsMessage, Standard}
+use Rattle.dm_symbol.proofs.Names.{sure_fault_count, AreHeldBy, AreOfSize, block_in, AreRestored, IsNormalGrid, Reads}
+use Rattle.std.proofs.lemmas.Bool.Decides.{nat_tests}
+use Rattle.std.proofs.lemmas.Bool.{true≢false}
 use Rattle.dm_code.specs.Codeword.{differing}
 use Rattle.dm_layout.specs.Sizes.{codeword_count, block_length}
 use Rattle.dm_layout.specs.Grid.{cell_at}
@@ -67,17 +67,7 @@ fault_shows true false false false right wrong = absurd (false≢true wrong)
 
 -- Bits of the same colour are equal.
 bit_is_one : (a b : ℕ) → a < 2 → b < 2 → eqb a 1 ≡ eqb b 1 → a ≡ b
-bit_is_one a b ha hb e =
-    elim (cases_Bool (eqb a 1)) [
-      | inl t ↦ eqb-true a 1 t ∙ sym (eqb-true b 1 (sym e ∙ t))
-      | inr f ↦
-          let na : a ≡ 1 → ⊥ = eqb-false a 1 f in
-          let nb : b ≡ 1 → ⊥ = eqb-false b 1 (sym e ∙ f) in
-          elim (cases_lt 0 a) [
-            | inl h ↦ absurd (na (omega (arith, h, ha)))
-            | inr h ↦ elim (cases_lt 0 b) [ inl k ↦ absurd (nb (omega (arith, k, hb))) | inr k ↦ omega (arith, h, k) ]
-          ]
-    ]
+bit_is_one a b ha hb e = grind (arith, nat_tests)
 
 -- Two lists of codewords that differ in a codeword have a bit of it in which they differ.
 colour_differs : (u v : List ℕ) (word : ℕ) → get_or u word 0 < 256 → get_or v word 0 < 256

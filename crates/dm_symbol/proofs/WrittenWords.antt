@@ -3,8 +3,8 @@ use Rattle.dm_symbol.proofs.Names.{◌≡◌, ℕ, ◌<◌, ◌≤◌, List, len
 use Rattle.dm_symbol.proofs.Names.{refl, sym, ap, subst, ◌∙◌, All, false≢true, TooLong, padded, SizeChoice, SizeEntry}
 use Rattle.dm_symbol.proofs.Names.{entry_for, SymbolView, WordsView, IsLaid, words_with, AreOfSize, AreCodewordsOf}
 use Rattle.dm_symbol.proofs.Names.{first_data, FitChoice}
-use Rattle.dm_layout.proofs.symbols.Exported.{one_laid, some_laid}
 use Rattle.dm_symbol.specs.WrittenWords.{AreWrittenIn, AreWritten}
+use Rattle.dm_layout.proofs.symbols.Exported.{one_laid, some_laid}
 use Rattle.dm_symbol.proofs.SymbolBelow.{held_is_one}
 use Rattle.dm_symbol.proofs.SymbolCompletions.{checks_for, chosen_stands}
 use Rattle.dm_symbol.proofs.SymbolWriteSteps.{checks_follow, chosen_holds}

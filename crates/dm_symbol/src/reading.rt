@@ -15,8 +15,8 @@ use dm_words::{Extent, Message, WordFault, message_to};
 /// How many codewords the room has that serves for small squares, up to 32 x 32.
 const FEW_CODEWORDS: usize = 98;
 
-/// What a grid says, and how much of it was wrong. The default is that of an empty message, with nothing corrected, into
-/// which [`read_to`] can read.
+/// What a grid says, and how much of it was wrong. The default is the reading of an empty message, with nothing
+/// corrected, into which [`read_to`] can read.
 #[derive(Clone, Debug, Default, Drop, PartialEq, Eq)]
 pub struct Reading {
     /// The message.
