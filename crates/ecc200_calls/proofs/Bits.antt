@@ -1,32 +1,22 @@
 -- Modules after the bits of codewords are written.
-use Rattle.std.proofs.Common.{◌≡◌, ◌≢◌, ◌⊎◌, inl, inr, ℕ, zero, suc, ◌+◌, ◌-◌, ◌*◌, ◌/◌, ◌%◌, ◌<◌, ◌≤◌, Bool, true}
-use Rattle.std.proofs.Common.{false}
-use Rattle.std.proofs.Common.{not, ◌&&◌, ◌||◌, cond, nat_eq, List, [], ◌∷◌, set, length, get_or, refl, sym, ◌∙◌, ap}
-use Rattle.std.proofs.Common.{arith}
-use Rattle.std.proofs.Common.{subst, get_or-set_other, get_or-set_same}
-use Rattle.std.specs.Prelude.{Some, None}
-use Rattle.std.specs.List.{list_all}
-use Rattle.std.proofs.lemmas.Bool.{and_parts, eqb-true, true≢false}
-use Rattle.std.proofs.lemmas.Bool.Decides.{eqb_tells}
-use Rattle.std.proofs.lemmas.List.{length-set}
-use Rattle.std.proofs.lemmas.List.Elements.{recursion_from_All}
-use Rattle.std.proofs.lemmas.List.Sums.{AllPass-from_list_all}
+use Rattle.ecc200_calls.proofs.Names.{nat_tests, eqb_tells, ◌≡◌, ◌≢◌, ◌⊎◌, inl, inr, ℕ, zero, suc, ◌+◌, ◌-◌, ◌*◌, ◌/◌}
+use Rattle.ecc200_calls.proofs.Names.{◌%◌, ◌<◌, ◌≤◌, Bool, true, false, not, ◌&&◌, ◌||◌, cond, nat_eq, List, [], ◌∷◌}
+use Rattle.ecc200_calls.proofs.Names.{set, length, get_or, refl, sym, ◌∙◌, ap, arith, subst, get_or-set_other}
+use Rattle.ecc200_calls.proofs.Names.{get_or-set_same, Some, None, list_all, and_parts, eqb-true, true≢false}
+use Rattle.ecc200_calls.proofs.Names.{length-set, recursion_from_All, AllPass-from_list_all, mul-le-mul_right, At}
+use Rattle.ecc200_calls.proofs.Names.{EachCellOnce, IsPlace, places_in_order, ArePlaces, all_are_places, one_bit}
+use Rattle.ecc200_calls.proofs.Names.{none_fixed, place_at, length-places_in_order, once_at_sides, SizeEntry, IsSize}
+use Rattle.ecc200_calls.proofs.Names.{area, mapping_rows, mapping_columns, at_found, off_edge, placed_size}
+use Rattle.ecc200_calls.proofs.Names.{region_below, row_inside, size_facts, symbol_line-form, symbol_line-one, PlaceOut}
+use Rattle.ecc200_calls.proofs.Names.{ArePlacesOf, nothing, bit_place, border_place, fixed_place, structure_by}
+use Rattle.ecc200_calls.proofs.Names.{structure_place, with_bits}
 use Rattle.std.proofs.lemmas.Nat.{div-mul-add, mod-mul-add}
-use Rattle.std.proofs.Math.Nat.{mul-le-mul_right}
 use Rattle.dm_place.specs.declared.cells.Place.{Place}
 use Rattle.dm_place.specs.declared.shape.Cell.{Cell}
 use Rattle.dm_place.specs.Border.{has_fixed_square, is_fixed, fixed_is_dark, symbol_line}
-use Rattle.dm_place.specs.Placement.{At, EachCellOnce, IsPlace, places_in_order}
-use Rattle.dm_place.proofs.Exported.{ArePlaces, all_are_places, one_bit, none_fixed, place_at, length-places_in_order}
-use Rattle.dm_place.proofs.Exported.{once_at_sides}
-use Rattle.dm_layout.specs.symbols.Sizes.{SizeEntry, IsSize, area, mapping_rows, mapping_columns, size_table}
+use Rattle.dm_layout.specs.symbols.Sizes.{size_table}
 use Rattle.dm_layout.specs.symbols.Border.{is_border, border_is_dark}
-use Rattle.dm_layout.proofs.symbols.Exported.{at_found, off_edge, placed_size, region_below, row_inside, size_facts}
-use Rattle.dm_layout.proofs.symbols.Exported.{symbol_line-form, symbol_line-one}
-use Rattle.ecc200_calls.specs.declared.place_table.PlaceOut.{PlaceOut}
-use Rattle.ecc200_calls.specs.Places.{ArePlacesOf, nothing, bit_place, border_place, fixed_place}
 use Rattle.ecc200_calls.specs.Places as places
-use Rattle.ecc200_calls.specs.inner.PlaceSteps.{structure_by, structure_place, with_bits}
 
 -- These are the places of all bits of a symbol of this size.
 abbrev all_bits : SizeEntry → List Place
@@ -63,8 +53,8 @@ module_of_cell size r c = symbol_line size.region_rows r * size.columns + symbol
 pub one_module : (columns r c u v : ℕ) → c < columns → v < columns → r * columns + c ≡ u * columns + v →
     (r ≡ u) × (c ≡ v)
 one_module columns r c u v lc lv e = (
-  sym (div-mul-add r columns c lc) ∙ ap (λ x. x / columns) e ∙ div-mul-add u columns v lv,
-  sym (mod-mul-add r columns c lc) ∙ ap (λ x. x % columns) e ∙ mod-mul-add u columns v lv,
+  cc (div-mul-add r columns c lc, div-mul-add u columns v lv),
+  cc (mod-mul-add r columns c lc, mod-mul-add u columns v lv),
 )
 
 -- Different cells of the mapping matrix stand at different places.
@@ -127,14 +117,11 @@ bits_stay size (p ∷ rest) xs w b r c entry are place room e =
         let mine = law.inside w b (At r c) place in
         let its = law.inside p.word p.bit (At p.row p.column) are.0 in
         let same = one_cell size r c p.row p.column entry mine.1 its.1 x.1 in
-        let there : IsPlace (mapping_rows size) (mapping_columns size) w b (At p.row p.column) =
-        subst (λ j. IsPlace (mapping_rows size) (mapping_columns size) w b (At p.row j)) same.1
-        (subst (λ i. IsPlace (mapping_rows size) (mapping_columns size) w b (At i c)) same.0 place) in
         let one =
-        one_bit (mapping_rows size) (mapping_columns size) p.row p.column w b p.word p.bit law there are.0 in
-        ap (λ i. get_or next i nothing) x.1 ∙ get_or-set_same xs at (bit_place p.word p.bit) nothing
-        (omega (arith, cell_inside size p.row p.column entry its.0 its.1, room))
-        ∙ ap (λ i. bit_place i p.bit) one.0 ∙ ap (bit_place w) one.1
+        one_bit (mapping_rows size) (mapping_columns size) p.row p.column w b p.word p.bit law
+        (rw (same.0, same.1) at place) are.0 in
+        rw (x.1, ← one.0, ← one.1) (get_or-set_same xs at (bit_place p.word p.bit) nothing
+        (omega (arith, cell_inside size p.row p.column entry its.0 its.1, room)))
 
 -- The module of a bit becomes right when its place is written.
 bits_come : (size : SizeEntry) (ps : List Place) (xs : List PlaceOut) (i : ℕ) (d : Place) → IsSize size →
@@ -163,13 +150,7 @@ bits_are_there size xs word bit cell entry room p =
     let m : ℕ = mapping_columns size in
     let d : Place = record { word = 0; bit = 0; row = 0; column = 0 } in
     let i : ℕ = 8 * word + (bit - 1) in
-    let found : get_or (places_in_order n m) i d ≡ record {
-      word = word;
-      bit = bit;
-      row = cell.row;
-      column =
-          cell.column;
-    } =
+    let found =
     place_at n m word bit d p.word_in p.from_one p.to_eight
     ∙ ap (λ (x : Cell). record { word = word; bit = bit; row = x.row; column = x.column }) p.there in
     let inside : i < length (places_in_order n m) =
@@ -194,24 +175,12 @@ border_is_there size xs r c entry lr lc h e =
     let k : ℕ = size.region_columns in
     let one =
     one_module size.columns r c (symbol_line d u) (symbol_line k v) lc (column_inside size v entry inside.1) same in
-    let off : is_border size r c ≡ false =
-    ap (λ x. is_border size x c) one.0 ∙ ap (is_border size (symbol_line d u)) one.1
-    ∙ off_edge size u v facts.least_rows facts.least_columns in
-    true≢false (sym h ∙ off))
+    true≢false (rw (one.0, one.1, off_edge size u v facts.least_rows facts.least_columns) at (sym h)))
     ∙ e ∙ ap (λ x. structure_by (cond x (Some (border_is_dark size r c)) None) r c) h
 
 -- Two lines of the mapping matrix are the same exactly where they are the same in the symbol.
 same_lines : (d r c : ℕ) → 6 ≤ d → nat_eq (symbol_line d r) (symbol_line d c) ≡ nat_eq r c
-same_lines d r c least = by_test (eqb_tells r c) (eqb_tells (symbol_line d r) (symbol_line d c))
-  where
-    by_test : ((nat_eq r c ≡ true) × (r ≡ c)) ⊎ ((nat_eq r c ≡ false) × (r ≢ c))
-        → ((nat_eq (symbol_line d r) (symbol_line d c) ≡ true) × (symbol_line d r ≡ symbol_line d c))
-        ⊎ ((nat_eq (symbol_line d r) (symbol_line d c) ≡ false) × (symbol_line d r ≢ symbol_line d c))
-        → nat_eq (symbol_line d r) (symbol_line d c) ≡ nat_eq r c
-    by_test (inl x) (inl y) = y.0 ∙ sym x.0
-    by_test (inl x) (inr y) = absurd (y.1 (ap (symbol_line d) x.1))
-    by_test (inr x) (inl y) = absurd (x.1 (symbol_line-one d r c least y.1))
-    by_test (inr x) (inr y) = y.0 ∙ sym x.0
+same_lines d r c least = grind (arith, nat_tests, symbol_line-one)
 
 -- A size whose mapping matrix has a fixed square has regions with as many rows as columns.
 abbrev is_square_if_fixed : SizeEntry → Bool
@@ -252,13 +221,8 @@ fixed_is_there size xs r c entry lr lc h e =
     (all_are_places n m) (λ w b u v p same.
     let inside = law.inside w b (At u v) p in
     let one = one_cell size r c u v entry lc inside.1 same in
-    none_fixed n m r c w b law h
-    (subst (λ j. IsPlace n m w b (At r j)) (sym one.1)
-    (subst (λ i. IsPlace n m w b (At i v)) (sym one.0) p)))
-    ∙ e ∙ ap (λ x. structure_by (cond x (Some (border_is_dark size (symbol_line d r) (symbol_line k c))) None)
-    (symbol_line d r) (symbol_line k c)) (off_edge size r c facts.least_rows facts.least_columns)
-    ∙ ap (λ x. fixed_place (nat_eq (symbol_line d r) (symbol_line x c))) (sym alike)
-    ∙ ap fixed_place (same_lines d r c facts.least_rows)
+    none_fixed n m r c w b law h (rw (← one.0, ← one.1) at p))
+    ∙ e ∙ rw (off_edge size r c facts.least_rows facts.least_columns, ← alike, same_lines d r c facts.least_rows) refl
 
 -- Writing the structure, and the bits over that, gives the modules of a symbol.
 pub places_are : (size : SizeEntry) (ys zs : List PlaceOut) → IsSize size → area size ≤ length ys

@@ -1,22 +1,9 @@
 -- Marks by their numbers.
-use Rattle.std.proofs.Common.{◌≡◌, ℕ, zero, suc, ◌+◌, ◌<◌, ◌≤◌, List, [], ◌∷◌, ◌++◌, length, take}
-use Rattle.std.proofs.Common.{get_or}
-use Rattle.std.proofs.Common.{refl, ◌∙◌, ap, subst, arith, add-one}
-use Rattle.std.proofs.lemmas.List.{get_or-map, length-map}
-use Rattle.std.proofs.lemmas.List.{take_all}
-use Rattle.dm_symbol.specs.declared.Mark.{Mark}
+use Rattle.ecc200_calls.proofs.Names.{◌≡◌, ℕ, zero, suc, ◌+◌, ◌<◌, ◌≤◌, List, [], ◌∷◌, ◌++◌, length, take, get_or, ◌∙◌}
+use Rattle.ecc200_calls.proofs.Names.{ap, subst, arith, get_or-map, length-map, take_all, take_more, Mark, AreMarks}
+use Rattle.ecc200_calls.proofs.Names.{MarkNumbers, IsFirstWrong, marks_of}
 use Rattle.dm_words.specs.Designators.{most_assigned}
-use Rattle.dm_words.specs.Contents.{AreMarks}
 use Rattle.dm_words.proofs.Exported.{more_items, one_more}
-use Rattle.ecc200_calls.specs.declared.mark.MarkNumbers.{MarkNumbers}
-use Rattle.ecc200_calls.specs.Contents.{IsFirstWrong, marks_of}
-
--- One more is taken of a list.
-taken_suc : {X : Type 0} (xs : List X) (i : ℕ) (d : X) → i < length xs
-    → take (suc i) xs ≡ take i xs ++ get_or xs i d ∷ []
-taken_suc [] i d lt = absurd (omega arith)
-taken_suc (x ∷ xs) zero d lt = refl
-taken_suc (x ∷ xs) (suc i) d lt = ap (λ ys. x ∷ ys) (taken_suc xs i d (omega (arith, lt)))
 
 -- The mark that has these numbers.
 abbrev pub mark_of : MarkNumbers → Mark
@@ -31,8 +18,7 @@ marks_end least most (m ∷ marks) are = omega (arith, are.0, marks_end m.place 
 pub taken_more : (marks : List MarkNumbers) (i : ℕ) (d : MarkNumbers) → i < length marks
     → take (i + 1) (marks_of marks) ≡ take i (marks_of marks) ++ mark_of (get_or marks i d) ∷ []
 taken_more marks i d lt =
-    ap (λ n. take n (marks_of marks)) (add-one i)
-    ∙ taken_suc (marks_of marks) i (mark_of d) (omega (arith, lt, length-map marks mark_of))
+    take_more (marks_of marks) i (mark_of d) (omega (arith, lt, length-map marks mark_of))
     ∙ ap (λ m. take i (marks_of marks) ++ m ∷ []) (get_or-map mark_of marks i d (mark_of d) lt)
 
 -- Marks in order, all of them up to a place, are so with one more that isn't before it.
@@ -90,11 +76,8 @@ module _ (count : ℕ) (marks : List MarkNumbers) (i least : ℕ) (d : MarkNumbe
 pub all_right : (count least : ℕ) (marks : List MarkNumbers) (i : ℕ) → length marks ≤ i → AreInOrder marks i least
     → least ≤ count → AreMarks 0 count (marks_of marks)
 all_right count least marks i le so_far within =
-    let all : take i (marks_of marks) ≡ marks_of marks = take_every in
-    subst (AreMarks 0 count) all (more_items 0 least count (take i (marks_of marks)) so_far.in_order within)
-  where
-    take_every : take i (marks_of marks) ≡ marks_of marks
-    take_every = take_all i (marks_of marks) (omega (arith, le, length-map marks mark_of))
+    rw (take_all i (marks_of marks) (omega (arith, le, length-map marks mark_of))) at (more_items 0 least count _
+    so_far.in_order within)
 
 -- The next of marks in order up to a place stands no further back.
 pub next_within : (least most : ℕ) (marks : List MarkNumbers) (i : ℕ) (d : MarkNumbers) → i < length marks

@@ -1,3 +1,4 @@
+mod Names
 pub mod Packing
 pub mod Unpacking
 pub mod Rows

@@ -1,27 +1,18 @@
 -- How many modules of a border may have the wrong colour.
-use Rattle.std.proofs.Common.{◌≡◌, ℕ, ◌<◌, ◌≤◌, List, All, Option, Some, None, Result, Ok, Err, sym, ap, subst}
-use Rattle.std.proofs.Common.{◌∙◌, arith}
-use Rattle.std.specs.Prelude.{IfErr, OnOk}
+use Rattle.ecc200_calls.proofs.Names.{◌≡◌, ℕ, ◌<◌, ◌≤◌, List, Option, Some, None, Result, Ok, Err, sym, subst, ◌∙◌}
+use Rattle.ecc200_calls.proofs.Names.{arith, All, IfErr, OnOk, Extent, ContentReadFault, SymbolView, WordsView}
+use Rattle.ecc200_calls.proofs.Names.{ContentReadResult, AreLight, faults_alike, none_lost, restored_alike}
+use Rattle.ecc200_calls.proofs.Names.{restored_back, restored_is_one, said_alike, IsLimit, IsSureLimit}
+use Rattle.ecc200_calls.proofs.Names.{LeavesCorrection, LeavesCorrections, usual_limit, IsRestored, IsRestoredFor}
 use Rattle.dm_symbol.specs.declared.BlockReading.{BlockReading}
 use Rattle.dm_symbol.specs.declared.Dealing.{Dealing}
-use Rattle.dm_symbol.specs.declared.Extent.{Extent}
-use Rattle.dm_symbol.specs.declared.ContentFault.{ContentFault}
-use Rattle.dm_symbol.specs.declared.ContentReadFault.{ContentReadFault}
-use Rattle.dm_symbol.specs.declared.ContentReadFault.TheVariants as fault
-use Rattle.dm_layout.specs.symbols.Symbols.{SymbolView}
-use Rattle.dm_layout.specs.symbols.Words.{WordsView}
 use Rattle.dm_symbol.specs.Doubt.{sure_fault_count}
-use Rattle.dm_symbol.specs.ContentReading.{ContentReadingView, ContentReadResult}
+use Rattle.dm_symbol.specs.declared.ContentFault.{ContentFault}
+use Rattle.dm_symbol.specs.declared.ContentReadFault.TheVariants as fault
 use Rattle.dm_symbol.specs.Restored as whole
-use Rattle.dm_symbol.specs.SymbolLaws.{AreLight}
-use Rattle.dm_symbol.specs.SymbolReading.{readings_by}
-use Rattle.dm_symbol.proofs.Exported.{faults_alike, none_lost, restored_alike, restored_back, restored_is_one}
-use Rattle.dm_symbol.proofs.Exported.{said_alike}
 use Rattle.ecc200_calls.specs.declared.restoring.Restored.{Restored}
 use Rattle.ecc200_calls.specs.declared.scan.BorderLimit.{BorderLimit}
 use Rattle.ecc200_calls.specs.declared.scan.BorderLimit.TheVariants.{Modules, Sure}
-use Rattle.ecc200_calls.specs.Scans.{IsLimit, IsSureLimit, LeavesCorrection, LeavesCorrections, usual_limit}
-use Rattle.ecc200_calls.specs.inner.Restored.{IsRestored, IsRestoredFor}
 
 -- ---- doubtful modules that are all light
 
@@ -49,14 +40,12 @@ module _ (doubtful : SymbolView) (light : AreLight doubtful) (symbol : SymbolVie
   -- As many border faults are sure.
   sure_alike : (limit : ℕ) → IsSureLimit extent symbol None limit → IsSureLimit extent symbol (Some doubtful) limit
   sure_alike limit (IsSureLimit.few few e) =
-      IsSureLimit.few (subst (λ n. n ≤ usual_limit symbol.size.rows symbol.size.columns)
-      (faults_alike doubtful light symbol) few) e
+      IsSureLimit.few (rw (faults_alike doubtful light symbol) at few) e
   sure_alike limit (IsSureLimit.sure more left e) =
-      IsSureLimit.sure (subst (λ n. usual_limit symbol.size.rows symbol.size.columns < n)
-      (faults_alike doubtful light symbol) more) (left_alike left) (e ∙ faults_alike doubtful light symbol)
+      IsSureLimit.sure (rw (faults_alike doubtful light symbol) at more) (left_alike left)
+      (e ∙ faults_alike doubtful light symbol)
   sure_alike limit (IsSureLimit.unsure more none e) =
-      IsSureLimit.unsure (subst (λ n. usual_limit symbol.size.rows symbol.size.columns < n)
-      (faults_alike doubtful light symbol) more) (λ left. none (left_back left)) e
+      IsSureLimit.unsure (rw (faults_alike doubtful light symbol) at more) (λ left. none (left_back left)) e
 
   -- The border limit is the same.
   pub limit_alike : (asked : BorderLimit) (limit : ℕ) → IsLimit asked extent symbol None limit
@@ -84,19 +73,12 @@ module _ (extent : Extent) (symbol : SymbolView) (doubtful : Option SymbolView) 
     blocks_of_left l =
         let one = restored_is_one symbol doubtful extent extent l.dealing dealing l.words l.codewords is.held words.list
         l.restored is.restored in
-        subst (All LeavesCorrection)
-        (ap (λ w. readings_by l.dealing symbol.size doubtful w l.codewords) one.0
-        ∙ ap (λ c. readings_by l.dealing symbol.size doubtful is.held c) one.1
-        ∙ ap (λ d. readings_by d symbol.size doubtful is.held words.list) one.2 ∙ sym is.readings) l.left
+        rw (one.0, one.1, one.2, ← is.readings) at l.left
 
   -- A fault of the border has the number of its faults, which are more than the limit.
   pub border_of_fault : (count : ℕ) → ContentReadResult extent symbol doubtful limit (Err (fault.Border count))
       → (limit < sure_fault_count symbol doubtful) × (count ≡ sure_fault_count symbol doubtful)
-  border_of_fault count (ContentReadResult.border more e) = (more, same_border count _ e)
-    where
-      same_border : (a b : ℕ)
-          → ◌≡◌ {A = Result ContentReadingView ContentReadFault} (Err (fault.Border a)) (Err (fault.Border b)) → a ≡ b
-      same_border a b e = cc
+  border_of_fault count (ContentReadResult.border more e) = (more, cc)
   border_of_fault count (ContentReadResult.block words index few lost e) = cc
   border_of_fault count (ContentReadResult.words d words codewords why few restored refused e) = cc
   border_of_fault count (ContentReadResult.content d words codewords content number few restored said is e) = cc
@@ -136,14 +118,13 @@ sure_for extent symbol doubtful usual count (Ok done) words restored is_usual fi
     let border = border_of_fault extent symbol doubtful usual count first in
     record {
       limit = count;
-      limit_is = IsSureLimit.sure (subst (λ n. n < sure_fault_count symbol doubtful) is_usual border.0) left border.1;
+      limit_is = IsSureLimit.sure (rw is_usual at border.0) left border.1;
       restored_or = are;
     }
 sure_for extent symbol doubtful usual count (Err why) words restored is_usual first left are none =
     let border = border_of_fault extent symbol doubtful usual count first in
     record {
       limit = usual;
-      limit_is = IsSureLimit.unsure (subst (λ n. n < sure_fault_count symbol doubtful) is_usual border.0) none.1
-          is_usual;
-      restored_or = subst (λ w. ContentReadResult extent symbol doubtful usual (Err w)) (sym none.0) first;
+      limit_is = IsSureLimit.unsure (rw is_usual at border.0) none.1 is_usual;
+      restored_or = rw none.0 first;
     }

@@ -1,16 +1,11 @@
 -- The modules of a symbol make it again.
-use Rattle.std.proofs.Common.{◌≡◌, ◌∙◌, ℕ, zero, suc, ◌+◌, ◌-◌, ◌*◌, ◌<◌, Bool, true, false, List, []}
-use Rattle.std.proofs.Common.{◌∷◌, ◌++◌, length, length-append, map, take, get_or, Some, refl, sym, ap, arith}
-use Rattle.std.specs.Prelude.{All}
-use Rattle.std.specs.List.{flat_map}
-use Rattle.std.proofs.Math.Seq.{get_or-append_right, take-append_seam}
-use Rattle.std.proofs.lemmas.List.{get_or_append_left, get_or-map, length-map}
-use Rattle.std.proofs.lemmas.List.Elements.{All-head, All-tail}
-use Rattle.dm_layout.specs.symbols.Sizes.{SizeEntry, entry_with}
-use Rattle.dm_layout.specs.symbols.Symbols.{SymbolView, IsSymbol, is_dark_number, rows_of}
+use Rattle.ecc200_calls.proofs.Names.{nat_tests, ◌≡◌, ◌∙◌, ℕ, zero, suc, ◌+◌, ◌-◌, ◌*◌, ◌<◌, Bool, true, false, List}
+use Rattle.ecc200_calls.proofs.Names.{[], ◌∷◌, ◌++◌, length, length-append, map, take, get_or, Some, refl, sym, ap}
+use Rattle.ecc200_calls.proofs.Names.{arith, All, flat_map, get_or-append_right, take-append_seam, get_or_append_left}
+use Rattle.ecc200_calls.proofs.Names.{get_or-map, length-map, All-head, All-tail, SizeEntry, entry_with, SymbolView}
+use Rattle.ecc200_calls.proofs.Names.{IsSymbol, is_dark_number, rows_of, AreModulesOf, module_of, modules_of}
+use Rattle.ecc200_calls.proofs.Names.{symbol_shown}
 use Rattle.ecc200_calls.specs.Laws.{ModulesMakeTheSymbol, OneSymbolIsMade}
-use Rattle.ecc200_calls.specs.Modules.{AreModulesOf, module_of, modules_of}
-use Rattle.ecc200_calls.specs.Symbols.{symbol_shown}
 use Rattle.ecc200_calls.proofs.Packing.{all_packed}
 
 -- A module as a number is dark where it is.
@@ -21,13 +16,11 @@ dark_again false = refl
 -- Rows of one length have that many modules each.
 pub count_of_rows : (rows : List (List Bool)) (columns : ℕ) → All (λ line. length line ≡ columns) rows →
     length (flat_map (map module_of) rows) ≡ length rows * columns
-count_of_rows [] columns wide = let none : 0 ≡ 0 * columns = omega arith in none
+count_of_rows [] columns wide = omega arith
 count_of_rows (line ∷ rows) columns wide =
-    let here : length (map module_of line) ≡ columns =
-    length-map line module_of ∙ All-head (λ l. length l ≡ columns) line rows wide in
+    let here = All-head (λ l. length l ≡ columns) line rows wide in
     let rest = count_of_rows rows columns (All-tail (λ l. length l ≡ columns) line rows wide) in
-    length-append (map module_of line) (flat_map (map module_of) rows)
-    ∙ ap (λ n. n + length (flat_map (map module_of) rows)) here ∙ ap (λ n. columns + n) rest ∙ omega arith
+    simp (length-append, length-map) (omega arith)
 
 -- Among the modules of rows of one length, that of a row and a column stands behind those of the rows above.
 module_at : (rows : List (List Bool)) (side r c : ℕ) → All (λ line. length line ≡ side) rows → r < length rows →
@@ -36,11 +29,7 @@ module_at : (rows : List (List Bool)) (side r c : ℕ) → All (λ line. length 
 module_at [] side r c wide lr lc = absurd (omega arith)
 module_at (line ∷ rows) side zero c wide lr lc =
     let long : length line ≡ side = All-head (λ l. length l ≡ side) line rows wide in
-    let within : c < length (map module_of line) = omega (arith, length-map line module_of, long, lc) in
-    let first : 0 * side + c ≡ c = omega arith in
-    ap (λ i. get_or (map module_of line ++ flat_map (map module_of) rows) i 0) first
-    ∙ get_or_append_left (map module_of line) (flat_map (map module_of) rows) 0 c within
-    ∙ get_or-map module_of line c false 0 (omega (arith, long, lc))
+    grind (arith, nat_tests, length-map, get_or_append_left, get_or-map module_of line c false 0 (omega (arith, long)))
 module_at (line ∷ rows) side (suc r) c wide lr lc =
     let long : length (map module_of line) ≡ side =
     length-map line module_of ∙ All-head (λ l. length l ≡ side) line rows wide in
@@ -81,7 +70,7 @@ made symbol before well =
 -- Two sizes with the same rows and columns are the same.
 same_size : (rows columns : ℕ) (a b : SizeEntry) → entry_with rows columns ≡ Some a → entry_with rows columns ≡ Some b
     → a ≡ b
-same_size rows columns a b e f = (let both : Some a ≡ Some b = sym e ∙ f in cc)
+same_size rows columns a b e f = cc
 
 -- Modules make at most one symbol.
 pub one_made : OneSymbolIsMade

@@ -1,18 +1,11 @@
 -- Messages and their numbers.
-use Rattle.std.proofs.Common.{◌≡◌, ◌⊎◌, inl, inr, ℕ, ◌<◌, ◌≤◌, List, [], ◌∷◌, Bool, true, ◌&&◌, nat_le}
-use Rattle.std.proofs.Common.{Option, Some, None, IsSome, refl, ◌∙◌, ap, arith}
-use Rattle.std.specs.Prelude.{All}
-use Rattle.std.specs.List.{AllByRecursion, list_all}
-use Rattle.std.proofs.lemmas.List.Sums.{AllPass-from_list_all}
-use Rattle.std.proofs.lemmas.List.Elements.{recursion_from_All, All-from_recursion}
-use Rattle.std.proofs.lemmas.Bool.{and_parts, cases_lt, false≢true, leb-true}
-use Rattle.dm_symbol.specs.declared.Item.{Item}
+use Rattle.ecc200_calls.proofs.Names.{◌≡◌, ◌⊎◌, inl, inr, ℕ, ◌<◌, ◌≤◌, List, [], ◌∷◌, Bool, true, ◌&&◌, nat_le, Option}
+use Rattle.ecc200_calls.proofs.Names.{Some, None, IsSome, refl, ◌∙◌, ap, arith, All, AllByRecursion, list_all}
+use Rattle.ecc200_calls.proofs.Names.{AllPass-from_list_all, recursion_from_All, All-from_recursion, and_parts}
+use Rattle.ecc200_calls.proofs.Names.{cases_lt, false≢true, leb-true, Item, SizeChoice, IsItem, IsMessage, SizeEntry}
+use Rattle.ecc200_calls.proofs.Names.{entry_for, most_data, takes, at_found, found_passes, number_of, numbers_of}
 use Rattle.dm_symbol.specs.declared.Item.TheVariants.{Byte, Fnc1}
-use Rattle.dm_symbol.specs.declared.SizeChoice.{SizeChoice}
-use Rattle.dm_symbol.specs.Messages.{IsItem, IsMessage}
-use Rattle.dm_layout.specs.symbols.Sizes.{SizeEntry, entry_for, most_data, size_table, takes}
-use Rattle.dm_layout.proofs.symbols.Exported.{at_found, found_passes}
-use Rattle.ecc200_calls.specs.Items.{number_of, numbers_of}
+use Rattle.dm_layout.specs.symbols.Sizes.{size_table}
 
 -- A number up to 256 is that of an item.
 item_there : (number : ℕ) → number ≤ 256 → (item : Item) × IsItem item × (number_of item ≡ number)

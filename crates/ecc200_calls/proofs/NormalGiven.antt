@@ -1,27 +1,12 @@
 -- What normalising a symbol gives, by the content that it is read as.
-use Rattle.std.proofs.Common.{◌≡◌, ℕ, Option, Result, Ok, Err, refl, sym, ◌∙◌, ap, subst}
-use Rattle.std.proofs.lemmas.Bool.{false≢true}
-use Rattle.dm_symbol.specs.declared.Extent.{Extent}
-use Rattle.dm_symbol.specs.declared.Extent.TheVariants.{Usual}
+use Rattle.ecc200_calls.proofs.Names.{◌≡◌, ℕ, Option, Result, Ok, Err, refl, false≢true, Extent, Usual, Profile, Square}
+use Rattle.ecc200_calls.proofs.Names.{TooLong, ContentView, as_content, SymbolView, IsNormalOrFault, ReadsContent}
+use Rattle.ecc200_calls.proofs.Names.{IsContentWritten, read_content_right, usual_fault, Profiled, SymbolOut}
+use Rattle.ecc200_calls.proofs.Names.{IsNormalGiven, normal_shown, IsContentGiven, symbol_given}
 use Rattle.dm_symbol.specs.declared.ContentNormalFault.{ContentNormalFault}
 use Rattle.dm_symbol.specs.declared.ContentNormalFault.TheVariants as of_content
-use Rattle.dm_symbol.specs.declared.Profile.{Profile}
-use Rattle.dm_symbol.specs.declared.SizeChoice.TheVariants.{Square}
-use Rattle.dm_symbol.specs.declared.TooLong.{TooLong}
-use Rattle.dm_words.specs.Contents.{ContentView}
-use Rattle.dm_words.specs.ContentExtents.{as_content}
-use Rattle.dm_layout.specs.symbols.Symbols.{SymbolView}
 use Rattle.dm_symbol.specs.ContentNormal.{NormalContentResult}
-use Rattle.dm_symbol.specs.NormalOutcomes.{IsNormalOrFault}
-use Rattle.dm_symbol.specs.ContentReading.{ContentReadResult, ReadsContent}
-use Rattle.dm_symbol.specs.NormalContent.{IsContentWritten, IsNormalOfContent, ContentFits}
-use Rattle.dm_symbol.proofs.Exported.{read_content_right, usual_fault}
-use Rattle.dm_symbol.specs.declared.Form.TheVariants.{Profiled}
-use Rattle.ecc200_calls.specs.declared.symbol.SymbolOut.{SymbolOut}
-use Rattle.ecc200_calls.specs.Faults.{read_content_fault}
 use Rattle.ecc200_calls.specs.Laws.{IsNormalMessageGiven, MessagesAreNormalised}
-use Rattle.ecc200_calls.specs.Symbols.{IsNormalGiven, no_symbol, normal_shown}
-use Rattle.ecc200_calls.specs.Writings.{IsContentGiven, symbol_given}
 use Rattle.ecc200_calls.proofs.ReadContents.{same_fault}
 
 module _ (extent : Extent) (profile : Profile) (symbol : SymbolView) (doubtful : Option SymbolView) (limit : ℕ)
@@ -59,16 +44,13 @@ message_normalised profile symbol doubtful limit before after given = by given.r
         → after ≡ normal_shown result before → IsNormalMessageGiven profile symbol doubtful limit before after
     by result (IsNormalOrFault.normal n h e) shown =
         let same = as_message h.content h.read in
-        IsNormalMessageGiven.normal h.content.items n (subst (ReadsContent Usual symbol doubtful limit) same h.read)
-        (subst (λ l. IsNormalOfContent profile l n) same h.normal_symbol)
-        (shown ∙ ap (λ r. normal_shown r before) e)
+        IsNormalMessageGiven.normal h.content.items n (rw same at h.read)
+        (rw same at h.normal_symbol)
+        (rw e at shown)
     by result (IsNormalOrFault.too_long h e) shown =
         let same = as_message h.content h.read in
-        IsNormalMessageGiven.no_square h.content.items (subst (ReadsContent Usual symbol doubtful limit) same h.read)
-        (subst (λ l. ContentFits Square profile l → ⊥) same h.too_long) (shown ∙ ap (λ r. normal_shown r before) e)
+        IsNormalMessageGiven.no_square h.content.items (rw same at h.read)
+        (rw same at h.too_long) (rw e at shown)
     by result (IsNormalOrFault.fault why read e) shown =
         let f = usual_fault symbol doubtful limit why read in
-        IsNormalMessageGiven.fault f.0 (subst (λ w. ContentReadResult Usual symbol doubtful limit (Err w)) f.1 read)
-        (shown ∙ ap (λ r. normal_shown r before) e
-        ∙ ap (λ w. no_symbol (read_content_fault w) before) f.1
-        ∙ ap (λ w. no_symbol w before) (sym (same_fault f.0)))
+        IsNormalMessageGiven.fault f.0 (rw f.1 at read) (rw (e, f.1, ← same_fault f.0) at shown)

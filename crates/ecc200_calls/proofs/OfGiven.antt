@@ -1,24 +1,15 @@
 -- What a call gives for the symbol of the modules that it is given, and for the doubtful ones of them.
-use Rattle.std.proofs.Common.{◌≡◌, ℕ, zero, suc, ◌*◌, ◌<◌, Bool, true, false, List, [], ◌∷◌, length, get_or, map, Some}
-use Rattle.std.proofs.Common.{◌≢◌, Option, None, refl, ◌∙◌, ap, arith, subst}
-use Rattle.std.proofs.Common.{nat_eq, ◌&&◌}
-use Rattle.std.proofs.lemmas.Bool.{and_parts, eqb-true}
-use Rattle.dm_symbol.specs.declared.Profile.{Profile}
-use Rattle.dm_symbol.specs.SymbolLaws.{AreLight}
-use Rattle.dm_symbol.proofs.Exported.{content_normal_alike, content_read_alike, light_rows}
-use Rattle.dm_symbol.proofs.Exported.{shown_alike}
-use Rattle.dm_layout.specs.symbols.Sizes.{SizeEntry, entry_with, size_table}
-use Rattle.dm_layout.proofs.symbols.Exported.{found_passes}
-use Rattle.dm_layout.specs.symbols.Symbols.{SymbolView, is_dark_number, rows_of}
+use Rattle.ecc200_calls.proofs.Names.{◌≡◌, ℕ, zero, suc, ◌*◌, ◌<◌, Bool, true, false, List, [], ◌∷◌, length, get_or}
+use Rattle.ecc200_calls.proofs.Names.{map, Some, ◌≢◌, Option, None, refl, ◌∙◌, ap, arith, subst, nat_eq, ◌&&◌}
+use Rattle.ecc200_calls.proofs.Names.{and_parts, eqb-true, Profile, AreLight, content_normal_alike, content_read_alike}
+use Rattle.ecc200_calls.proofs.Names.{light_rows, shown_alike, SizeEntry, entry_with, size_table, found_passes}
+use Rattle.ecc200_calls.proofs.Names.{SymbolView, is_dark_number, rows_of, SymbolOut, AreDoubtful, AreGiven}
+use Rattle.ecc200_calls.proofs.Names.{AreModulesOf, IsGivenFault, IsReadingSought, SoughtResult, IsNormalSought}
+use Rattle.ecc200_calls.proofs.Names.{NormalisedResult, IsInspectResult, IsInspectionGiven}
 use Rattle.ecc200_calls.specs.declared.inspection.InspectionOut.{InspectionOut}
 use Rattle.ecc200_calls.specs.declared.reading.ReadingOut.{ReadingOut}
-use Rattle.ecc200_calls.specs.declared.scan.Sought.{Sought}
-use Rattle.ecc200_calls.specs.declared.symbol.SymbolOut.{SymbolOut}
-use Rattle.ecc200_calls.specs.Modules.{AreDoubtful, AreGiven, AreModulesOf, IsGivenFault}
 use Rattle.ecc200_calls.specs.Faults.{wrong_doubt}
-use Rattle.ecc200_calls.specs.Readings.{IsReadingSought, SoughtResult}
-use Rattle.ecc200_calls.specs.Symbols.{IsNormalSought, NormalisedResult}
-use Rattle.ecc200_calls.specs.Inspections.{IsInspectResult, IsInspectionGiven}
+use Rattle.ecc200_calls.specs.declared.scan.Sought.{Sought}
 use Rattle.ecc200_calls.specs.inner.Given.{AreZero, IsKnown, IsOfGiven}
 use Rattle.ecc200_calls.proofs.Limits.{limit_alike}
 
@@ -59,8 +50,7 @@ given_by rows columns modules doubt size some Result Whole of_symbol alike known
     made : (numbers : List ℕ) (symbol : SymbolView) → AreModulesOf size.rows size.columns numbers symbol
         → AreModulesOf rows columns numbers symbol
     made numbers symbol are =
-        subst (λ r. AreModulesOf r columns numbers symbol) known.rows_are
-        (subst (λ c. AreModulesOf size.rows c numbers symbol) known.columns_are are)
+        rw (known.rows_are, known.columns_are) at are
 
     by_doubt : (numbers : List ℕ) → doubt ≡ numbers → IsOfGiven size modules doubt some Result → Whole
     by_doubt numbers e (IsOfGiven.doubted symbol doubtful some_told are those result) =
@@ -77,8 +67,7 @@ given_by rows columns modules doubt size some Result Whole of_symbol alike known
         record { size = size; rows = rows_of rows columns (map is_dark_number doubt) } in
         let some_numbers : doubt ≢ [] = λ none. cc in
         let count : length doubt ≡ rows * columns =
-        known.doubt_count some_numbers ∙ ap (λ r. r * size.columns) known.rows_are
-        ∙ ap (λ c. rows * c) known.columns_are in
+        rw (known.rows_are, known.columns_are) at (known.doubt_count some_numbers) in
         of_symbol symbol (Some light)
         (record {
           modules_are = made modules symbol are;
@@ -96,12 +85,9 @@ module _ (rows columns : ℕ) (modules doubt : List ℕ) (size : SizeEntry) (som
       IsReadingSought sought size.rows size.columns symbol doubtful before after)
       → SoughtResult sought rows columns modules doubt before after
   read_of_given sought before after of =
-      given_by rows columns modules doubt size some
-      (λ symbol doubtful. IsReadingSought sought size.rows size.columns symbol doubtful before after)
-      (SoughtResult sought rows columns modules doubt before after)
+      given_by rows columns modules doubt size some _ _
       (λ symbol doubtful are r. SoughtResult.of_symbol symbol doubtful are
-      (subst (λ r. IsReadingSought sought r columns symbol doubtful before after) known.rows_are
-      (subst (λ c. IsReadingSought sought size.rows c symbol doubtful before after) known.columns_are r)))
+      (rw (known.rows_are, known.columns_are) at r))
       (λ symbol doubtful light r. record {
         limit = r.limit;
         limit_is = limit_alike doubtful light symbol sought.extent sought.limit r.limit r.limit_is;
@@ -118,9 +104,7 @@ module _ (rows columns : ℕ) (modules doubt : List ℕ) (size : SizeEntry) (som
       IsNormalSought sought profile symbol doubtful before after)
       → NormalisedResult sought profile rows columns modules doubt before after
   normal_of_given sought profile before after of =
-      given_by rows columns modules doubt size some
-      (λ symbol doubtful. IsNormalSought sought profile symbol doubtful before after)
-      (NormalisedResult sought profile rows columns modules doubt before after)
+      given_by rows columns modules doubt size some _ _
       (λ symbol doubtful are r. NormalisedResult.of_symbol symbol doubtful are r)
       (λ symbol doubtful light r. record {
         limit = r.limit;
@@ -139,12 +123,9 @@ module _ (rows columns : ℕ) (modules doubt : List ℕ) (size : SizeEntry) (som
       IsInspectionGiven size.rows size.columns symbol doubtful before after)
       → IsInspectResult rows columns modules doubt before after
   shown_of_given before after of =
-      given_by rows columns modules doubt size some
-      (λ symbol doubtful. IsInspectionGiven size.rows size.columns symbol doubtful before after)
-      (IsInspectResult rows columns modules doubt before after)
+      given_by rows columns modules doubt size some _ _
       (λ symbol doubtful are given. IsInspectResult.of_symbol symbol doubtful are
-      (subst (λ r. IsInspectionGiven r columns symbol doubtful before after) known.rows_are
-      (subst (λ c. IsInspectionGiven size.rows c symbol doubtful before after) known.columns_are given)))
+      (rw (known.rows_are, known.columns_are) at given))
       (λ symbol doubtful light given. record {
         room = given.room;
         inspection = given.inspection;
@@ -169,7 +150,7 @@ pub sure_given : (size : SizeEntry) (modules doubt : List ℕ) (some : Bool)
     → AreModulesOf before.size.rows before.size.columns modules symbol → Result symbol.size symbol None
     → IsOfGiven size modules doubt some (Result size)
 sure_given size modules doubt some Result before symbol none_told e same are result =
-    IsOfGiven.sure symbol none_told (subst (λ (s : SizeEntry). AreModulesOf s.rows s.columns modules symbol) e are)
+    IsOfGiven.sure symbol none_told (rw e at are)
     (subst (λ (s : SizeEntry). Result s symbol None) (same ∙ e) result)
 
 -- So it is where some are, whose numbers are put into another.
@@ -180,7 +161,5 @@ pub doubted_given : (size : SizeEntry) (modules doubt : List ℕ) (some : Bool)
     → AreModulesOf other.size.rows other.size.columns doubt doubtful → Result symbol.size symbol (Some doubtful)
     → IsOfGiven size modules doubt some (Result size)
 doubted_given size modules doubt some Result before symbol other doubtful told e same are f those result =
-    IsOfGiven.doubted symbol doubtful told
-    (subst (λ (s : SizeEntry). AreModulesOf s.rows s.columns modules symbol) e are)
-    (subst (λ (s : SizeEntry). AreModulesOf s.rows s.columns doubt doubtful) f those)
+    IsOfGiven.doubted symbol doubtful told (rw e at are) (rw f at those)
     (subst (λ (s : SizeEntry). Result s symbol (Some doubtful)) (same ∙ e) result)

@@ -1,29 +1,19 @@
 -- Rows of modules that are packed into one number, module after module from the right.
-use Rattle.std.proofs.Common.{◌≡◌, ◌≢◌, ℕ, zero, suc, ◌+◌, ◌-◌, ◌*◌, ◌/◌, ◌%◌, ◌^◌, ◌<◌, ◌≤◌, Bool, true, false, cond}
-use Rattle.std.proofs.Common.{nat_eq, List, [], length, get_or, refl, sym, ◌∙◌, ap, arith, mul_comm, Fits}
-use Rattle.std.proofs.Common.{map, take, drop}
-use Rattle.std.proofs.Common.{subst, bit_or, inl, inr}
+use Rattle.ecc200_calls.proofs.Names.{◌≡◌, ◌≢◌, ℕ, zero, suc, ◌+◌, ◌-◌, ◌*◌, ◌/◌, ◌%◌, ◌^◌, ◌<◌, ◌≤◌, Bool, true, false}
+use Rattle.ecc200_calls.proofs.Names.{cond, nat_eq, List, [], length, get_or, refl, sym, ◌∙◌, ap, arith, mul_comm, Fits}
+use Rattle.ecc200_calls.proofs.Names.{map, take, drop, bit_or, inl, inr, Fits-bits, pow-suc, div-div-eq-div-mul}
+use Rattle.ecc200_calls.proofs.Names.{mul-le-mul_right, mod-eq_of_lt, get_or-map, length-drop, length-map, take_all}
+use Rattle.ecc200_calls.proofs.Names.{get_or-drop, cases_lt, bit_mask_l, mask_l-lt, length-chunk, get_or-chunk}
+use Rattle.ecc200_calls.proofs.Names.{range_with_len, All-get_or, fill_by_all, area, AreModulesOf, SymbolView, IsSymbol}
+use Rattle.ecc200_calls.proofs.Names.{module_at, is_dark_bit, is_dark}
 use Rattle.std.specs.Int.{w16}
-use Rattle.std.proofs.Math.Facts.{Fits-bits}
-use Rattle.std.proofs.Math.Pow.{pow_mono}
-use Rattle.std.proofs.Math.Nat.{pow-suc, div-div-eq-div-mul}
-use Rattle.std.proofs.lemmas.Nat.{pow_below}
 use mir.Val.{bool_byte as from_bool}
-use Rattle.std.proofs.lemmas.List.{get_or-map}
-use Rattle.std.proofs.Math.Nat.{mul-le-mul_right, mod-eq_of_lt}
+use Rattle.std.proofs.Math.Pow.{pow_mono}
+use Rattle.std.proofs.lemmas.Nat.{pow_below}
 use Rattle.std.specs.Simd.Lanes.{mask_l, chunk}
-use Rattle.std.proofs.lemmas.Bool.{cases_lt}
-use Rattle.std.proofs.lemmas.List.{length-drop, length-map, take_all, get_or-drop}
 use Rattle.std.specs.Int.Bits.{or_shifted_r}
 use Rattle.std.proofs.lemmas.Nat.{pow-add}
 use Rattle.std.proofs.lemmas.Nat.Bits.{bit_at_cat_low, bit_at_cat_high}
-use Rattle.std.proofs.lemmas.Simd.{bit_mask_l, mask_l-lt, length-chunk, get_or-chunk}
-use Rattle.std.specs.List.{range_with_len}
-use Rattle.std.proofs.lemmas.List.Elements.{All-get_or}
-use Rattle.std.proofs.lemmas.List.FromFn.{fill_by_all}
-use Rattle.dm_layout.specs.symbols.Sizes.{area}
-use Rattle.ecc200_calls.specs.Modules.{AreModulesOf}
-use Rattle.dm_layout.specs.symbols.Symbols.{SymbolView, IsSymbol, module_at, is_dark_bit, is_dark_number as is_dark}
 
 -- The next power of 2 is twice the last one.
 pow_next : (i : ℕ) → 2 ^ (i + 1) ≡ 2 ^ i * 2
@@ -70,14 +60,11 @@ pub packed_more : (modules : List ℕ) (i row : ℕ) → i < length modules
     → is_dark_bit (2 * row + from_bool (is_dark (get_or modules (length modules - 1 - i) 0))) c ≡
     is_dark (get_or modules (length modules - (i + 1) + c) 0)
 packed_more modules i row l h zero k =
-    let e : length modules - 1 - i ≡ length modules - (i + 1) + 0 = omega (arith, l) in
-    dark_first row (is_dark (get_or modules (length modules - 1 - i) 0)) ∙ ap (λ j. is_dark (get_or modules j 0)) e
+    let e : length modules - 1 - i ≡ length modules - (i + 1) + 0 = omega (arith, l) in rw (dark_first, e)
 packed_more modules i row l h (suc c) k =
-    let b : Bool = is_dark (get_or modules (length modules - 1 - i) 0) in
     let s : suc c ≡ c + 1 = omega arith in
     let e : length modules - i + c ≡ length modules - (i + 1) + suc c = omega (arith, l) in
-    ap (λ j. is_dark_bit (2 * row + from_bool b) j) s ∙ dark_next row c b ∙ h c (omega (arith, k))
-    ∙ ap (λ j. is_dark (get_or modules j 0)) e
+    rw s (dark_next row c _ ∙ h c (omega (arith, k)) ∙ rw (e, s) refl)
 
 -- ---- sixteen modules together
 
@@ -125,10 +112,9 @@ rest_at xs at k d l =
 pub mask_small : (n : ℕ) (modules : List ℕ) (bits : ℕ) → bits ≡ mask_l (map is_dark (chunk 0 n modules)) →
     n ≤ length modules → bits < 2 ^ n
 mask_small n modules bits e long =
-    let count : length (map is_dark (chunk 0 n modules)) ≡ n =
-    length-map (chunk 0 n modules) is_dark ∙ length-chunk 0 n modules (omega (arith, long)) in
-    subst (λ b. b < 2 ^ n) (sym e) (subst (λ k. mask_l (map is_dark (chunk 0 n modules)) < 2 ^ k) count
-    (mask_l-lt (map is_dark (chunk 0 n modules))))
+    rw e
+    (rw (length-map (chunk 0 n modules) is_dark, length-chunk 0 n modules (omega (arith, long))) at (mask_l-lt (map
+    is_dark (chunk 0 n modules))))
 
 -- A bit of a mask is 1 where its lane is true.
 cond_one : (b : Bool) → nat_eq (cond b 1 0) 1 ≡ b
@@ -141,12 +127,11 @@ pub mask_dark : (n : ℕ) (modules : List ℕ) (bits : ℕ) → bits ≡ mask_l 
     → (column : ℕ) → column < n → column < length modules → is_dark_bit bits column ≡ is_dark (get_or modules column 0)
 mask_dark n modules bits e long column l within =
     let block = chunk 0 n modules in
+    let first : 0 + column ≡ column = omega arith in
     let count : length block ≡ n = length-chunk 0 n modules (omega (arith, long)) in
-    ap (λ b. is_dark_bit b column) e ∙ ap (λ b. nat_eq b 1) (bit_mask_l (map is_dark block) column)
-    ∙ cond_one (get_or (map is_dark block) column false)
-    ∙ get_or-map is_dark block column 0 false (omega (arith, count, l))
-    ∙ ap is_dark (get_or-chunk 0 n modules column 0 l
-    ∙ ap (λ j. get_or modules j 0) (let first : 0 + column ≡ column = omega arith in first))
+    rw (e, bit_mask_l (map is_dark block) column, cond_one)
+    (get_or-map is_dark block column 0 false (omega (arith, count, l))
+    ∙ ap is_dark (rw first at (get_or-chunk 0 n modules column 0 l)))
 
 -- ---- all rows
 

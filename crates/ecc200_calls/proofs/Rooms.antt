@@ -1,19 +1,12 @@
 -- Rooms in which there is room for the symbols of some sizes.
-use Rattle.std.proofs.Common.{◌≡◌, ℕ, zero, suc, ◌+◌, ◌*◌, ◌≤◌, Bool, true, not, ◌&&◌, ◌||◌, nat_eq, nat_le}
-use Rattle.std.proofs.Common.{Some, length, length-take, refl, sym, ◌∙◌, ap, arith}
-use Rattle.std.specs.Prelude.{find}
-use Rattle.std.specs.List.{list_all}
-use Rattle.std.proofs.lemmas.Bool.{and_parts, leb-true, le-leb}
-use Rattle.std.proofs.lemmas.List.Elements.{recursion_from_All}
-use Rattle.std.proofs.lemmas.List.Sums.{AllPass-from_list_all}
-use Rattle.dm_symbol.specs.declared.Extent.{Extent}
-use Rattle.dm_symbol.specs.declared.Extent.TheVariants.{Usual, Wide}
-use Rattle.dm_symbol.specs.Messages.{most_data, most_spelled}
-use Rattle.dm_layout.specs.symbols.Sizes.{SizeEntry, IsSize, codeword_count, most_codewords, size_table}
-use Rattle.dm_layout.specs.symbols.Words.{WordsView, IsWords, data_of}
-use Rattle.dm_layout.proofs.symbols.Exported.{at_found, size_facts}
+use Rattle.ecc200_calls.proofs.Names.{◌≡◌, ℕ, zero, suc, ◌+◌, ◌*◌, ◌≤◌, Bool, true, not, ◌&&◌, ◌||◌, nat_eq, nat_le}
+use Rattle.ecc200_calls.proofs.Names.{Some, length, length-take, refl, arith, rules, find, list_all, and_parts}
+use Rattle.ecc200_calls.proofs.Names.{leb-true, le-leb, recursion_from_All, AllPass-from_list_all, Extent, Usual, Wide}
+use Rattle.ecc200_calls.proofs.Names.{most_spelled, SizeEntry, IsSize, codeword_count, most_codewords, WordsView}
+use Rattle.ecc200_calls.proofs.Names.{IsWords, data_of, at_found, size_facts, HasRoomToSay}
+use Rattle.dm_symbol.specs.Messages.{most_data}
+use Rattle.dm_layout.specs.symbols.Sizes.{size_table}
 use Rattle.ecc200_calls.specs.inner.Rooms.{IsRoom, HasRoom}
-use Rattle.ecc200_calls.specs.inner.Restored.{HasRoomToSay}
 
 -- A size with at most so many data codewords has at most so many rows and codewords.
 abbrev fits : ℕ → ℕ → ℕ → SizeEntry → Bool
@@ -49,10 +42,7 @@ module _ (most rows words : ℕ) (each : list_all (fits most rows words) size_ta
       at_found (λ s. fits most rows words s ≡ true) p size_table size
       (recursion_from_All (λ s. fits most rows words s ≡ true) size_table
       (AllPass-from_list_all (fits most rows words) size_table each)) found in
-      let both : (nat_le size.rows rows && nat_le (codeword_count size) words) ≡ true =
-      sym (ap (λ b. not b || (nat_le size.rows rows && nat_le (codeword_count size) words))
-      (le-leb size.data_count most le)) ∙ test in
-      let parts = and_parts (nat_le size.rows rows) (nat_le (codeword_count size) words) both in
+      let parts = and_parts _ _ (rw (le-leb size.data_count most le) at test) in
       (leb-true _ _ parts.0, leb-true _ _ parts.1)
 
   -- There is room for such a symbol, and for what it says.
@@ -71,20 +61,6 @@ module _ (most rows words : ℕ) (each : list_all (fits most rows words) size_ta
         few_marks = few_marks;
       }
 
-is_small : IsRoom 32 98
-is_small = record { some_rows = omega arith; some_words = omega arith; few_rows = omega arith; few_words = omega arith }
-
-is_fair : IsRoom 52 288
-is_fair = record { some_rows = omega arith; some_words = omega arith; few_rows = omega arith; few_words = omega arith }
-
-is_middle : IsRoom 104 1152
-is_middle =
-    record { some_rows = omega arith; some_words = omega arith; few_rows = omega arith; few_words = omega arith }
-
-is_largest : IsRoom 144 2178
-is_largest =
-    record { some_rows = omega arith; some_words = omega arith; few_rows = omega arith; few_words = omega arith }
-
 -- A room for a symbol has room for what symbols of its size say.
 pub room_to_say : (rows words items marks : ℕ) (size other : SizeEntry) → HasRoom rows words items marks size
     → other ≡ size → HasRoomToSay items marks other.data_count
@@ -94,20 +70,21 @@ room_to_say rows words items marks size other has same =
 
 -- There is room in the small room, in the middle one, and in the largest.
 pub small_room : (size : SizeEntry) → IsSize size → size.data_count ≤ 62 → HasRoom 32 98 131 31 size
-small_room = room 62 32 98 small_fits 131 31 (omega arith) (omega arith) (omega arith) (omega arith) is_small
+small_room = room 62 32 98 small_fits 131 31 (omega arith) (omega arith) (omega arith) (omega arith) (search rules)
 
 pub fair_room : (size : SizeEntry) → IsSize size → size.data_count ≤ 204 → HasRoom 52 288 415 102 size
-fair_room = room 204 52 288 fair_fits 415 102 (omega arith) (omega arith) (omega arith) (omega arith) is_fair
+fair_room = room 204 52 288 fair_fits 415 102 (omega arith) (omega arith) (omega arith) (omega arith) (search rules)
 
 pub middle_room : (size : SizeEntry) → IsSize size → size.data_count ≤ 816 → HasRoom 104 1152 1639 408 size
 middle_room =
-    room 816 104 1152 middle_fits 1639 408 (omega arith) (omega arith) (omega arith) (omega arith) is_middle
+    room 816 104 1152 middle_fits 1639 408 (omega arith) (omega arith) (omega arith) (omega arith)
+    (search rules)
 
 pub largest_room : (size : SizeEntry) → IsSize size → HasRoom 144 2178 3123 779 size
 largest_room size entry =
     let f = size_facts size entry in
     record {
-      room = is_largest;
+      room = search rules;
       high = f.rows_fit;
       long = f.codewords;
       spelled = λ extent. omega (arith, few_spelled extent size.data_count, f.data_fits);
@@ -115,6 +92,9 @@ largest_room size entry =
       marked = omega (arith, f.data_fits);
       few_marks = omega arith;
     }
+
+-- What each of the rooms has room for.
+pub ruleset rooms = (small_room, fair_room, middle_room, largest_room)
 
 -- The codewords of a symbol fit an array that holds those of the largest.
 pub words_fit : (words : WordsView) → IsWords words → length words.list ≤ most_codewords

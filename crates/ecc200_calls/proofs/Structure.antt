@@ -1,9 +1,7 @@
 -- Modules that are written row by row.
-use Rattle.std.proofs.Common.{◌≡◌, ◌≢◌, ℕ, ◌+◌, ◌*◌, ◌<◌, ◌≤◌, List, set, length, get_or, ◌∙◌, arith, below_more}
-use Rattle.std.proofs.Common.{get_or-set_other, get_or-set_same}
-use Rattle.std.proofs.Math.Nat.{mul-le-mul_right}
-use Rattle.ecc200_calls.specs.declared.place_table.PlaceOut.{PlaceOut}
-use Rattle.ecc200_calls.specs.Places.{nothing}
+use Rattle.ecc200_calls.proofs.Names.{◌≡◌, ◌≢◌, ℕ, ◌+◌, ◌*◌, ◌<◌, ◌≤◌, List, set, length, get_or, ◌∙◌, arith}
+use Rattle.ecc200_calls.proofs.Names.{below_more, get_or-set_other, get_or-set_same, mul-le-mul_right, PlaceOut}
+use Rattle.ecc200_calls.proofs.Names.{nothing}
 
 -- One more module is written in a row that begins at a place.
 pub module_put : (places : List PlaceOut) (start column : ℕ) (f : ℕ → PlaceOut) → start + column < length places

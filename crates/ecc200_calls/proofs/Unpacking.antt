@@ -1,23 +1,15 @@
 -- Cells of a row that are unpacked together into modules.
-use Rattle.std.proofs.Common.{◌≡◌, ◌∙◌, ℕ, ◌+◌, ◌-◌, ◌*◌, ◌/◌, ◌^◌, ◌<◌, ◌≤◌, min, Bool, false, bit_and, List}
-use Rattle.std.proofs.Common.{◌++◌, length}
-use Rattle.std.proofs.Common.{map, take, drop, get_or, sym, ap, arith, inl, inr}
+use Rattle.ecc200_calls.proofs.Names.{◌≡◌, ◌∙◌, ℕ, ◌+◌, ◌-◌, ◌*◌, ◌/◌, ◌^◌, ◌<◌, ◌≤◌, min, Bool, false, bit_and, List}
+use Rattle.ecc200_calls.proofs.Names.{◌++◌, length, map, take, drop, get_or, sym, ap, arith, inl, inr, cases_lt}
+use Rattle.ecc200_calls.proofs.Names.{append_assoc, drop-drop, get_or-map, get_or_append_left, length-drop, length-map}
+use Rattle.ecc200_calls.proofs.Names.{length-take-le, take-append-drop, take-take, get_or-take, get_or-drop, map-append}
+use Rattle.ecc200_calls.proofs.Names.{take-append_seam, range_with_len, fill_by_all, get_or-map-range_with_len}
+use Rattle.ecc200_calls.proofs.Names.{length-map-range_with_len, put_chunk_is, take_more_put_chunk, is_dark_bit}
+use Rattle.ecc200_calls.proofs.Names.{cut_cell, module_of, unpacked_cells, unpacked_row}
 use Rattle.std.specs.Simd.Lanes.{put_chunk}
-use Rattle.std.proofs.lemmas.Bool.{cases_lt}
-use Rattle.std.proofs.lemmas.List.{append_assoc, drop-drop, get_or-append_right, get_or-map}
-use Rattle.std.proofs.lemmas.List.{get_or_append_left}
-use Rattle.std.proofs.lemmas.List.{length-append, length-drop, length-map, length-take, length-take-le}
-use Rattle.std.proofs.lemmas.List.{take-append-drop}
-use Rattle.std.proofs.lemmas.List.{take-take, get_or-take, get_or-drop, map-append}
+use Rattle.std.proofs.lemmas.List.{get_or-append_right}
+use Rattle.std.proofs.lemmas.List.{length-append, length-take}
 use Rattle.std.proofs.lemmas.Slice.{drop-append-drop}
-use Rattle.std.proofs.Math.Seq.{take-append_seam}
-use Rattle.std.specs.List.{range_with_len}
-use Rattle.std.proofs.lemmas.List.FromFn.{fill_by_all, get_or-map-range_with_len, length-map-range_with_len}
-use Rattle.std.proofs.lemmas.Simd.{put_chunk_is, take_more_put_chunk}
-use Rattle.dm_layout.specs.symbols.Symbols.{is_dark_bit}
-use Rattle.dm_layout.proofs.symbols.Exported.{cut_cell}
-use Rattle.ecc200_calls.specs.Modules.{module_of}
-use Rattle.ecc200_calls.specs.inner.UnpackedCells.{unpacked_cells, unpacked_row}
 
 -- Sixteen modules are unpacked together.
 pub sixteen : (stored : List ℕ) (cells : ℕ) → stored ≡ unpacked_cells 16 cells → length stored ≡ 16
@@ -69,10 +61,7 @@ written_more start column cells init all stored room is before =
     let part = bit_and (cells / 2 ^ column) 65535 in
     let long = sixteen stored part is in
     take_more_put_chunk (start + column) all stored (start + (column + 16)) (omega (arith, long)) (omega (arith, room))
-    ∙ ap (λ (xs : List ℕ). xs ++ stored) before
-    ∙ append_assoc (take start init) (unpacked_cells column cells) stored
-    ∙ ap (λ (xs : List ℕ). take start init ++ (unpacked_cells column cells ++ xs)) (is ∙ cut_part cells column)
-    ∙ ap (λ (xs : List ℕ). take start init ++ xs) (sym (unpacked_parts cells column 16))
+    ∙ rw (before, append_assoc, is, cut_part, unpacked_parts)
 
 -- What lies behind numbers that are stored stays.
 pub behind_chunk : (i n : ℕ) (xs ys : List ℕ) → i + length ys ≤ length xs → i + length ys ≤ n →
@@ -128,10 +117,7 @@ line_is_row row cells end columns wide first behind =
     let rest : unpacked_cells (columns - 128) end ≡ map module_of (drop 128 row) =
     part_is_row (drop 128 row) end (columns - 128) (omega (arith, length-drop 128 row, wide)) (λ k l.
     behind k (omega (arith, l)) ∙ sym (get_or-drop 128 row k false)) in
-    ap (λ (xs : List ℕ). xs ++ unpacked_cells (columns - 128) end) front
-    ∙ ap (λ (xs : List ℕ). map module_of (take 128 row) ++ xs) rest
-    ∙ sym (map-append module_of (take 128 row) (drop 128 row))
-    ∙ ap (map module_of) (take-append-drop 128 row)
+    rw (front, rest, ← map-append module_of (take 128 row) (drop 128 row), take-append-drop)
 
 -- Where the first 128 modules of a row are written, and the others behind them, the row is.
 pub row_written : (start columns cells end width : ℕ) (old between new : List ℕ) → 128 < columns
@@ -143,11 +129,8 @@ row_written start columns cells end width old between new long is first behind =
     let full : width ≡ 128 = omega (arith, is, long) in
     let whole : start + columns ≡ start + 128 + (columns - 128) = omega (arith, long) in
     let rest = unpacked_cells (columns - 128) end in
-    ap (λ (n : ℕ). take n new) whole ∙ behind
-    ∙ ap (λ (n : ℕ). take (start + n) between ++ rest) (sym full)
-    ∙ ap (λ (xs : List ℕ). xs ++ rest) first
-    ∙ append_assoc (take start old) (unpacked_cells width cells) rest
-    ∙ ap (λ (n : ℕ). take start old ++ (unpacked_cells n cells ++ rest)) is
+    rw (whole, behind)
+    (ap (λ (n : ℕ). take (start + n) between ++ rest) (sym full) ∙ rw (first, append_assoc, is))
 
 -- A row that is written behind those above it is written with the modules that it has.
 pub row_shown : (start count row columns cells end : ℕ) (old new : List ℕ) (line : List Bool) → start ≡ row * columns
@@ -156,7 +139,4 @@ pub row_shown : (start count row columns cells end : ℕ) (old new : List ℕ) (
     → take ((row + 1) * columns) new ≡ take (row * columns) old ++ map module_of line
 row_shown start count row columns cells end old new line at wide is written =
     let last : (row + 1) * columns ≡ start + count = omega (arith, at, wide) in
-    ap (λ (n : ℕ). take n new) last ∙ written
-    ∙ ap (λ (n : ℕ). take n old ++ unpacked_row count cells end) at
-    ∙ ap (λ (n : ℕ). take (row * columns) old ++ unpacked_row n cells end) wide
-    ∙ ap (λ (xs : List ℕ). take (row * columns) old ++ xs) is
+    rw (last, written, at, wide, is)

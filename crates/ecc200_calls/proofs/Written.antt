@@ -1,32 +1,16 @@
 -- Contents that are written, and symbols that are normalised.
-use Rattle.std.proofs.Common.{◌≡◌, ◌⊎◌, inl, inr, ℕ, ◌*◌, ◌+◌, ◌<◌, ◌≤◌, List, [], ◌∷◌, length, Option, Err}
-use Rattle.std.proofs.Common.{refl, sym, ◌∙◌, ap, subst, arith}
-use Rattle.std.specs.Prelude.{All}
-use Rattle.std.proofs.lemmas.List.{length-map}
-use Rattle.dm_symbol.specs.declared.Head.{Head}
-use Rattle.dm_symbol.specs.declared.Item.{Item}
-use Rattle.dm_symbol.specs.declared.Mark.{Mark}
-use Rattle.dm_symbol.specs.Messages.{IsMessage}
-use Rattle.dm_symbol.specs.declared.Profile.{Profile}
-use Rattle.dm_symbol.specs.declared.SizeChoice.{SizeChoice}
-use Rattle.dm_symbol.specs.declared.TooLong.{TooLong}
+use Rattle.ecc200_calls.proofs.Names.{◌≡◌, ◌⊎◌, inl, inr, ℕ, ◌*◌, ◌+◌, ◌<◌, ◌≤◌, List, [], ◌∷◌, length, Option, Err}
+use Rattle.ecc200_calls.proofs.Names.{refl, sym, ◌∙◌, ap, arith, All, length-map, Head, Item, Mark, IsMessage, Profile}
+use Rattle.ecc200_calls.proofs.Names.{SizeChoice, TooLong, ContentView, IsContent, AreMarks, size_facts, entry_for}
+use Rattle.ecc200_calls.proofs.Names.{most_data, ContentFits, form_written_is_plain, no_content_written}
+use Rattle.ecc200_calls.proofs.Names.{no_words_written, Profiled, Smallest, MarkNumbers, SymbolOut, number_of}
+use Rattle.ecc200_calls.proofs.Names.{numbers_of, IsContentOf, marks_of, marks_shown, no_symbol, IsContentGiven}
+use Rattle.ecc200_calls.proofs.Names.{IsWritingGiven}
+use Rattle.ecc200_calls.specs.Faults.{too_long}
 use Rattle.dm_words.specs.Heads.{IsHead}
-use Rattle.dm_words.specs.Contents.{ContentView, IsContent, AreMarks}
 use Rattle.dm_words.specs.ContentForm.{content_form}
 use Rattle.dm_words.proofs.Exported.{content_form_counts, said_few}
-use Rattle.dm_layout.proofs.symbols.Exported.{size_facts}
-use Rattle.dm_layout.specs.symbols.Sizes.{entry_for, most_data}
-use Rattle.dm_symbol.specs.NormalContent.{ContentFits}
-use Rattle.dm_symbol.proofs.Exported.{form_written_is_plain, no_content_written, no_words_written}
 use Rattle.dm_symbol.specs.declared.Form.{Form}
-use Rattle.dm_symbol.specs.declared.Form.TheVariants.{Profiled, Smallest}
-use Rattle.ecc200_calls.specs.declared.mark.MarkNumbers.{MarkNumbers}
-use Rattle.ecc200_calls.specs.declared.symbol.SymbolOut.{SymbolOut}
-use Rattle.ecc200_calls.specs.Faults.{too_long}
-use Rattle.ecc200_calls.specs.Items.{number_of, numbers_of}
-use Rattle.ecc200_calls.specs.Contents.{IsContentOf, marks_of, marks_shown}
-use Rattle.ecc200_calls.specs.Symbols.{no_symbol}
-use Rattle.ecc200_calls.specs.Writings.{IsContentGiven, IsWritingGiven}
 use Rattle.dm_symbol.specs.WrittenContent.{IsWrittenAs}
 use Rattle.ecc200_calls.proofs.Messages.{message_there, room_in}
 
@@ -51,13 +35,12 @@ pub numbers_given : (form : Form) (choice : SizeChoice) (head : Option Head) (nu
     → IsContentGiven form choice (record { head = head; items = items; marks = made }) before after
     → IsWritingGiven form choice head numbers marks before after
 numbers_given form choice head numbers marks items made before after right are of_numbers fit of_marks given =
-    let count : length items ≡ length numbers =
-    sym (length-map items number_of) ∙ ap (λ (n : List ℕ). length n) of_numbers in
+    let count : length items ≡ length numbers = rw (← of_numbers, length-map) in
     content_given form choice head numbers marks (record { head = head; items = items; marks = made }) before after
     (record {
       head = right;
       items = fit;
-      marks = subst (λ n. AreMarks 0 n made) (sym count) (subst (AreMarks 0 (length numbers)) (sym of_marks) are);
+      marks = rw (count, of_marks) are;
     })
     (record { head_is = refl; items = of_numbers; marks_are = ap marks_shown of_marks ∙ marks_again marks }) given
 
@@ -90,7 +73,7 @@ no_size_given form choice head numbers marks before after right items are none s
     (record {
       head = right;
       items = there.1;
-      marks = subst (λ n. AreMarks 0 n (marks_of marks)) (sym item_count) are;
+      marks = rw item_count are;
     })
     (record { head_is = refl; items = there.2; marks_are = marks_again marks })
     (record { result = Err why; written = none l item_count mark_count why; shown = shown })

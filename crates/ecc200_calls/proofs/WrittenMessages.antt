@@ -1,17 +1,8 @@
 -- What writing a message gives, by what writing its content gives.
-use Rattle.std.proofs.Common.{◌≡◌, List, [], ◌∷◌, Option, None, Result, Ok, Err, refl, ◌∙◌, ap, subst, arith}
-use Rattle.std.proofs.lemmas.Bool.{false≢true}
-use Rattle.dm_symbol.specs.declared.Head.{Head}
-use Rattle.dm_symbol.specs.declared.Item.{Item}
-use Rattle.dm_symbol.specs.declared.Mark.{Mark}
-use Rattle.dm_symbol.specs.declared.TooLong.{TooLong}
-use Rattle.dm_words.specs.Contents.{ContentView}
-use Rattle.dm_words.specs.ContentExtents.{as_content}
-use Rattle.dm_layout.specs.symbols.Symbols.{SymbolView}
-use Rattle.dm_symbol.specs.NormalContent.{IsContentWritten}
+use Rattle.ecc200_calls.proofs.Names.{◌≡◌, List, [], ◌∷◌, Option, None, Result, Ok, Err, refl, ◌∙◌, ap, subst, arith}
+use Rattle.ecc200_calls.proofs.Names.{false≢true, Head, Item, Mark, TooLong, ContentView, as_content, SymbolView}
+use Rattle.ecc200_calls.proofs.Names.{IsContentWritten, marks_shown, IsWritingGiven, symbol_given}
 use Rattle.ecc200_calls.specs.Laws.{IsMessageWriting, MessagesAreWritten}
-use Rattle.ecc200_calls.specs.Contents.{marks_shown}
-use Rattle.ecc200_calls.specs.Writings.{IsWritingGiven, symbol_given}
 
 -- Where marks have no numbers, there are none.
 no_marks : (marks : List Mark) → marks_shown marks ≡ [] → marks ≡ []

@@ -127,6 +127,7 @@ fn show_fault(out: &mut InspectionOut, why: Fault)
 }
 
 /// Shows an inspection of a symbol of this size, without designators.
+#[tactic(auto, using(crate::proofs::Rooms::words_fit))]
 fn show_inspection<const WORDS: usize>(
     out: &mut InspectionOut,
     size: SymbolSize,
@@ -149,6 +150,7 @@ fn show_inspection<const WORDS: usize>(
 }
 
 /// Shows the designators of an inspected symbol.
+#[tactic(auto, using(crate::proofs::Rooms::data_few))]
 fn show_designators<const WORDS: usize>(
     out: &mut InspectionOut,
     inspection: &SymbolInspectionIn<WORDS>,

@@ -33,6 +33,7 @@ fn mark_shown(mark: Mark) -> MarkNumbers
 }
 
 /// Writes the marks of numbers over the first ones, none of which stands behind more items than this.
+#[tactic(auto, using(crate::proofs::ContentNumbers::next_within))]
 pub(crate) fn put_marks_of(all: &mut [Mark], marks: &[MarkNumbers], count: usize)
     requires in_order { AreMarks 0 count (marks_of marks.now) }
     requires few { count ≤ LARGEST_ROOM }
@@ -60,6 +61,7 @@ pub(crate) fn put_marks(all: &mut [MarkNumbers], marks: &[Mark])
 
 /// Gives the index of the first of the marks of so many items that is wrong: it stands before the place of an earlier
 /// one or behind more items than there are, or its number is that of no assignment.
+#[tactic(auto, using(crate::proofs::ContentNumbers::all_right))]
 pub(crate) fn first_wrong(count: usize, marks: &[MarkNumbers]) -> Option<usize>
     ensures some { IfSome result (λ place. IsFirstWrong count marks.now place) }
     ensures none { IfNone result (AreMarks 0 count (marks_of marks.now)) }

@@ -175,6 +175,7 @@ fn show_row<const ROWS: usize>(all: &mut [u8], symbol: &SymbolIn<ROWS>, row: u16
 }
 
 /// Unpacks a row of so many columns over the numbers from a place on. Fifteen numbers behind them may change.
+#[tactic(auto, using(crate::proofs::Rows::behind_far))]
 fn unpack_row(all: &mut [u8], start: usize, columns: usize, cells: u128, end: u16)
     requires columns { columns ≤ MOST_COLUMNS }
     requires room { start + columns + TOGETHER ≤ length all.old }
@@ -191,6 +192,7 @@ fn unpack_row(all: &mut [u8], start: usize, columns: usize, cells: u128, end: u1
 
 /// Unpacks the first modules of a row, of which the first is the lowest bit, over the numbers from a place on. Fifteen
 /// numbers behind them may change.
+#[tactic(auto, using(crate::proofs::Unpacking::unpacked_front))]
 fn unpack_on(all: &mut [u8], start: usize, width: usize, cells: u128)
     requires width { width ≤ FIRST }
     requires room { start + width + TOGETHER ≤ length all.old }
@@ -210,6 +212,7 @@ fn unpack_on(all: &mut [u8], start: usize, width: usize, cells: u128)
 
 /// Unpacks sixteen modules, of which the first is the lowest bit. Each of their two bytes is put into eight lanes by
 /// one shuffle.
+#[tactic(auto, using(dm_layout::proofs::symbols::Exported::sixteen_shown))]
 #[inline]
 fn unpack_together(cells: u16) -> u8x16
     ensures { result ≡ unpacked_cells TOGETHER cells }

@@ -147,6 +147,7 @@ fn read_restored<const WORDS: usize, const ITEMS: usize, const MARKS: usize>(
 }
 
 /// Does so with room for so many marks. It stands by itself, so that there is room for one content on the stack.
+#[tactic(auto, using(crate::proofs::Rooms::data_few, crate::proofs::Rooms::data_count_is))]
 #[inline(never)]
 fn read_words<const WORDS: usize, const ITEMS: usize, const MARKS: usize>(
     extent: Extent,

@@ -66,6 +66,7 @@ pub(crate) enum Room {
 
 impl Room {
     /// Gives the room for the work with a symbol of this size.
+    #[tactic(auto, using(crate::proofs::Rooms::rooms))]
     pub(crate) fn of(size: SymbolSize) -> Room
         ensures small { result ≡ Room.Small → HasRoom SMALL_ROWS SMALL_WORDS SMALL_ITEMS SMALL_MARKS
             size }

@@ -1,4 +1,4 @@
-use Rattle.std.proofs.Common.{◌≡◌, ◌<◌, ℕ, true, false, get_or}
+use Rattle.ecc200_calls.proofs.Names.{◌≡◌, ◌<◌, ℕ, true, false, get_or}
 use Rattle.ecc200_calls.proofs.given.are_zero.Given as goal
 
 abbrev pub invariant-loop-number : goal.invariant-loop-number

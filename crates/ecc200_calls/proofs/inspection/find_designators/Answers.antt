@@ -1,4 +1,4 @@
-use Rattle.std.proofs.Common.{refl}
+use Rattle.ecc200_calls.proofs.Names.{refl}
 use Rattle.ecc200_calls.proofs.inspection.find_designators.Goals as goal
 
 pub returns : goal.returns

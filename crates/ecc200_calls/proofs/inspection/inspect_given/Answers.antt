@@ -1,4 +1,4 @@
-use Rattle.ecc200_calls.specs.Inspections.{IsInspectionGiven}
+use Rattle.ecc200_calls.proofs.Names.{IsInspectionGiven}
 use Rattle.ecc200_calls.proofs.OfGiven.{doubted_given, sure_given}
 use Rattle.ecc200_calls.proofs.inspection.inspect_given.Goals as goal
 

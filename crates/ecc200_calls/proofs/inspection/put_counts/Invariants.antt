@@ -1,5 +1,4 @@
-use Rattle.std.proofs.Common.{◌≡◌, drop, length, map, take}
-use Rattle.ecc200_calls.specs.Inspections.{corrected_shown, erased_shown, left_shown}
+use Rattle.ecc200_calls.proofs.Names.{◌≡◌, drop, length, map, take, corrected_shown, erased_shown, left_shown}
 use Rattle.ecc200_calls.proofs.inspection.put_counts.Given as goal
 
 abbrev pub invariant-loop-b : goal.invariant-loop-b

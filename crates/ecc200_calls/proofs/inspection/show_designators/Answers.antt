@@ -1,15 +1,5 @@
-use Rattle.std.proofs.Common.{[], arith, ap, length, refl}
-use Rattle.ecc200_calls.proofs.Rooms.{data_few}
-use Rattle.ecc200_calls.specs.Inspections.{restored, lost}
+use Rattle.ecc200_calls.proofs.Names.{[], refl, restored, lost}
 use Rattle.ecc200_calls.proofs.inspection.show_designators.Goals as goal
-
-pub find_designators-requires : goal.find_designators-requires
-find_designators-requires g c =
-    omega (
-      arith,
-      data_few c.args.inspection.now.mended c.data_part-words.ensures.words,
-      ap length c.data_part-words.ensures.value,
-    )
 
 pub returns-then-has_lost : goal.returns-then-has_lost
 returns-then-has_lost g c =

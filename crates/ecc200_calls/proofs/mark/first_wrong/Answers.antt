@@ -1,6 +1,5 @@
-use Rattle.std.proofs.Common.{refl, arith}
-use Rattle.ecc200_calls.specs.declared.mark.MarkNumbers.{MarkNumbers}
-use Rattle.ecc200_calls.proofs.ContentNumbers.{all_right, first_is_wrong, one_more_right}
+use Rattle.ecc200_calls.proofs.Names.{refl, arith, MarkNumbers}
+use Rattle.ecc200_calls.proofs.ContentNumbers.{first_is_wrong, one_more_right}
 use Rattle.ecc200_calls.proofs.mark.first_wrong.Goals.{then-place-least-via-then-place-least}
 use Rattle.ecc200_calls.proofs.mark.first_wrong.Goals.{then-place-least-via-else-place-least+then-place-count}
 use Rattle.ecc200_calls.proofs.mark.first_wrong.Goals.{
@@ -35,8 +34,3 @@ loop-i-preserved c =
           _ _
           refl refl c.if-place-least.false c.if-mark-gt-MOST_ASSIGNED.false;
     }
-
-pub returns-clause-none : goal.returns-clause-none
-returns-clause-none c =
-    let l = c.loop-i in
-    all_right c.args.count l.least c.args.marks.now l.i c.loop-i-test.false l.invariant.so_far l.invariant.within

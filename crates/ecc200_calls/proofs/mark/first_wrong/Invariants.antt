@@ -1,4 +1,4 @@
-use Rattle.std.proofs.Common.{◌≤◌}
+use Rattle.ecc200_calls.proofs.Names.{◌≤◌}
 use Rattle.ecc200_calls.proofs.ContentNumbers.{AreInOrder}
 use Rattle.ecc200_calls.proofs.mark.first_wrong.Given as goal
 

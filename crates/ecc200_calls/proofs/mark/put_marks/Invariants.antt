@@ -1,5 +1,4 @@
-use Rattle.std.proofs.Common.{◌≡◌, drop, length, take}
-use Rattle.ecc200_calls.specs.Contents.{marks_shown}
+use Rattle.ecc200_calls.proofs.Names.{◌≡◌, drop, length, take, marks_shown}
 use Rattle.ecc200_calls.proofs.mark.put_marks.Given as goal
 
 abbrev pub invariant-loop-i : goal.invariant-loop-i

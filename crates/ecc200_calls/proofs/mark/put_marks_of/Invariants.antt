@@ -1,5 +1,4 @@
-use Rattle.std.proofs.Common.{◌≡◌, length, take}
-use Rattle.ecc200_calls.specs.Contents.{marks_of}
+use Rattle.ecc200_calls.proofs.Names.{◌≡◌, length, take, marks_of}
 use Rattle.ecc200_calls.proofs.mark.put_marks_of.Given as goal
 
 abbrev pub invariant-loop-i : goal.invariant-loop-i

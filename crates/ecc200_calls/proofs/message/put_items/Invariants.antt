@@ -1,5 +1,4 @@
-use Rattle.std.proofs.Common.{◌≡◌, drop, length, take}
-use Rattle.ecc200_calls.specs.Items.{numbers_of}
+use Rattle.ecc200_calls.proofs.Names.{◌≡◌, drop, length, take, numbers_of}
 use Rattle.ecc200_calls.proofs.message.put_items.Given as goal
 
 abbrev pub invariant-loop-i : goal.invariant-loop-i

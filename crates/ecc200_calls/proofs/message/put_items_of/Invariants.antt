@@ -1,6 +1,4 @@
-use Rattle.std.proofs.Common.{◌≡◌, length, take}
-use Rattle.dm_symbol.specs.Messages.{IsMessage}
-use Rattle.ecc200_calls.specs.Items.{numbers_of}
+use Rattle.ecc200_calls.proofs.Names.{◌≡◌, length, take, IsMessage, numbers_of}
 use Rattle.ecc200_calls.proofs.message.put_items_of.Given as goal
 
 abbrev pub invariant-loop-i : goal.invariant-loop-i

@@ -1,5 +1,4 @@
-use Rattle.std.proofs.Common.{◌∙◌, ap, arith}
-use Rattle.dm_layout.specs.symbols.Symbols.{is_dark_number as is_dark}
+use Rattle.ecc200_calls.proofs.Names.{◌∙◌, ap, arith, is_dark}
 use Rattle.ecc200_calls.proofs.Packing.{rest_at}
 use Rattle.ecc200_calls.proofs.modules.pack_end.Goals as goal
 

@@ -1,5 +1,5 @@
-use Rattle.std.proofs.Common.{◌≡◌, ◌<◌, ◌≤◌, ◌+◌, ◌*◌, ◌%◌, ◌^◌, ◌∙◌, ℕ, arith, get_or, subst, sym, ap, bit_or}
-use Rattle.dm_layout.specs.symbols.Symbols.{is_dark_bit, is_dark_number as is_dark}
+use Rattle.ecc200_calls.proofs.Names.{◌≡◌, ◌<◌, ◌≤◌, ◌+◌, ◌*◌, ◌%◌, ◌^◌, ◌∙◌, arith, ap, bit_or, is_dark_bit}
+use Rattle.ecc200_calls.proofs.Names.{is_dark}
 use Rattle.ecc200_calls.proofs.Packing.{together_is, together_more, together_small, rest_at}
 use Rattle.ecc200_calls.proofs.modules.pack_on.Goals as goal
 
@@ -16,15 +16,12 @@ loop-column-preserved c =
     together_is row next column low i.small few in
     record {
       before =
-          subst (λ n. (k : ℕ) → k < column + 16 → k < c.args.across → is_dark_bit n k ≡ is_dark (get_or modules k 0))
-          (sym sum)
-          (together_more modules row next column c.args.across i.small i.before (λ k l w.
+          rw sum (together_more modules row next column c.args.across i.small i.before (λ k l w.
           ap (λ n. is_dark_bit n k) c.from.ensures
           ∙ c.pack_together.ensures k l (rest_at modules column k 0 (omega (arith, w, c.requires.there))).0
           ∙ ap is_dark (rest_at modules column k 0 (omega (arith, w, c.requires.there))).1));
       small =
-          subst (λ n. n < 2 ^ (column + 16)) (sym sum)
-          (together_small row next column i.small few);
+          rw sum (together_small row next column i.small few);
       multiple = omega (arith, i.multiple);
       within = omega (arith, c.loop-column-test.true);
     }

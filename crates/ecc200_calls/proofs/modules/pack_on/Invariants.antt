@@ -1,5 +1,4 @@
-use Rattle.std.proofs.Common.{◌≡◌, ◌-◌, ◌+◌, ◌%◌, ◌<◌, ◌^◌, ℕ, get_or}
-use Rattle.dm_layout.specs.symbols.Symbols.{is_dark_bit, is_dark_number as is_dark}
+use Rattle.ecc200_calls.proofs.Names.{◌≡◌, ◌-◌, ◌+◌, ◌%◌, ◌<◌, ◌^◌, ℕ, get_or, is_dark_bit, is_dark}
 use Rattle.ecc200_calls.proofs.modules.pack_on.Given as goal
 
 -- The modules before this column, a multiple of sixteen, are packed, and nothing else.

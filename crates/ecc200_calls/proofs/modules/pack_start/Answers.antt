@@ -1,4 +1,4 @@
-use Rattle.std.proofs.Common.{◌∙◌, arith}
+use Rattle.ecc200_calls.proofs.Names.{◌∙◌, arith}
 use Rattle.ecc200_calls.proofs.Packing.{mask_dark}
 use Rattle.ecc200_calls.proofs.modules.pack_start.Goals as goal
 

@@ -1,4 +1,4 @@
-use Rattle.std.proofs.Math.Facts.{Fits-bits}
+use Rattle.ecc200_calls.proofs.Names.{Fits-bits}
 use Rattle.ecc200_calls.proofs.Packing.{mask_small, mask_dark}
 use Rattle.ecc200_calls.proofs.modules.pack_together.Goals as goal
 

@@ -1,8 +1,6 @@
-use Rattle.std.proofs.Common.{◌≡◌, ◌<◌, ◌≤◌, ◌∙◌, ◌+◌, ◌-◌, ◌*◌, ℕ, sym, ap, arith, get_or, take, drop, length, subst}
-use Rattle.std.proofs.Math.Nat.{mul-le-mul_right}
-use Rattle.dm_layout.specs.symbols.Symbols.{SymbolView, module_at, is_dark_number as is_dark}
-use Rattle.dm_layout.specs.symbols.Sizes.{SizeEntry, area}
-use Rattle.ecc200_calls.specs.Modules.{AreModulesOf}
+use Rattle.ecc200_calls.proofs.Names.{refl, ◌≡◌, ◌<◌, ◌≤◌, ◌∙◌, ◌+◌, ◌-◌, ◌*◌, ℕ, sym, ap, arith, get_or, take, drop}
+use Rattle.ecc200_calls.proofs.Names.{length, subst, mul-le-mul_right, SymbolView, module_at, is_dark}
+use Rattle.ecc200_calls.proofs.Names.{SizeEntry, area, AreModulesOf}
 use Rattle.ecc200_calls.proofs.Packing.{above_more, all_packed, both_parts, rest_at}
 use Rattle.ecc200_calls.proofs.modules.put_modules.Goals as goal
 
@@ -16,8 +14,7 @@ loop-row-preserved g c =
     let columns = old.size.columns in
     let same : new.size ≡ old.size = c.put_row.ensures.size in
     let at = c.from.result * c.from-columns.result in
-    let start : at ≡ row * columns =
-    ap (λ n. n * c.from-columns.result) c.from.ensures ∙ ap (λ n. row * n) i.across in
+    let start : at ≡ row * columns = rw (c.from.ensures, i.across) refl in
     let low : row < old.size.rows = omega (arith, c.loop-row-test.true, i.last) in
     let room : (row + 1) * columns ≤ old.size.rows * columns = mul-le-mul_right columns (omega (arith, low)) in
     let count : length modules ≡ area old.size = c.requires ∙ ap area (sym i.size) in
@@ -32,13 +29,12 @@ loop-row-preserved g c =
     ∙ ap is_dark ((rest_at modules at k 0 (omega (arith, start, room, count, l))).1
     ∙ ap (λ n. get_or modules (n + k) 0) start) in
     record {
-      above = subst (λ (s : SizeEntry). (r k : ℕ) → r < row + 1 → k < s.columns
-          → module_at new r k ≡ is_dark (get_or modules (r * s.columns + k) 0)) (sym same)
-          (above_more old new modules row old.size.rows columns low here c.put_row.ensures.others i.above);
+      above =
+          rw same (above_more old new modules row old.size.rows columns low here c.put_row.ensures.others i.above);
       size = same ∙ i.size;
       well = c.put_row.ensures.modules;
-      last = i.last ∙ ap (λ (s : SizeEntry). s.rows) (sym same);
-      across = i.across ∙ ap (λ (s : SizeEntry). s.columns) (sym same);
+      last = rw same i.last;
+      across = rw same i.across;
     }
 
 pub returns-clause-modules : goal.returns-clause-modules

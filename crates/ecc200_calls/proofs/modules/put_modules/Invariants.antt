@@ -1,5 +1,4 @@
-use Rattle.std.proofs.Common.{◌≡◌, ◌+◌, ◌*◌, ◌<◌, ℕ, get_or}
-use Rattle.dm_layout.specs.symbols.Symbols.{IsSymbol, module_at, is_dark_number as is_dark}
+use Rattle.ecc200_calls.proofs.Names.{◌≡◌, ◌+◌, ◌*◌, ◌<◌, ℕ, get_or, IsSymbol, module_at, is_dark}
 use Rattle.ecc200_calls.proofs.modules.put_modules.Given as goal
 
 -- The rows above this one are put.

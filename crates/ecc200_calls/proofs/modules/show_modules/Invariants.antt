@@ -1,7 +1,4 @@
-use Rattle.std.proofs.Common.{◌≡◌, ◌*◌, drop, length, map, take}
-use Rattle.std.specs.List.{flat_map}
-use Rattle.dm_layout.specs.symbols.Sizes.{area}
-use Rattle.ecc200_calls.specs.Modules.{module_of}
+use Rattle.ecc200_calls.proofs.Names.{◌≡◌, ◌*◌, drop, length, map, take, flat_map, area, module_of}
 use Rattle.ecc200_calls.proofs.modules.show_modules.Given as goal
 
 -- The rows above this one are written.

@@ -1,8 +1,6 @@
-use Rattle.std.proofs.Common.{◌≡◌, ◌≤◌, ◌+◌, ◌/◌, ◌^◌, ◌∙◌, ℕ, ap, arith, bit_and, length}
-use Rattle.std.proofs.lemmas.Simd.{length-put_chunk}
-use Rattle.dm_layout.proofs.symbols.Exported.{rest_more}
-use Rattle.ecc200_calls.specs.inner.UnpackedCells.{unpacked_cells}
-use Rattle.ecc200_calls.proofs.Unpacking.{behind_chunk, sixteen, unpacked_front, written_more}
+use Rattle.ecc200_calls.proofs.Names.{◌≡◌, ◌≤◌, ◌+◌, ◌/◌, ◌^◌, ◌∙◌, ℕ, ap, arith, bit_and, length, length-put_chunk}
+use Rattle.ecc200_calls.proofs.Names.{rest_more, unpacked_cells}
+use Rattle.ecc200_calls.proofs.Unpacking.{behind_chunk, sixteen, written_more}
 use Rattle.ecc200_calls.proofs.modules.unpack_on.Goals as goal
 
 pub loop-column-preserved : goal.loop-column-preserved
@@ -24,9 +22,3 @@ loop-column-preserved c =
       rest = rest_more c.args.cells column c.loop-column.rest i.rest;
       within = omega (arith, c.loop-column-test.true);
     }
-
-pub returns-clause-written : goal.returns-clause-written
-returns-clause-written c =
-    let i = c.loop-column.invariant in
-    unpacked_front c.args.start c.args.width c.loop-column.column c.args.cells c.args.all.now c.loop-column.all
-    (omega (arith, c.loop-column-test.false)) (omega (arith, c.requires.room)) i.written

@@ -1,5 +1,4 @@
-use Rattle.std.proofs.Common.{◌≡◌, ◌-◌, ◌+◌, ◌/◌, ◌^◌, ◌<◌, ◌++◌, drop, length, take}
-use Rattle.ecc200_calls.specs.inner.UnpackedCells.{unpacked_cells}
+use Rattle.ecc200_calls.proofs.Names.{◌≡◌, ◌-◌, ◌+◌, ◌/◌, ◌^◌, ◌<◌, ◌++◌, drop, length, take, unpacked_cells}
 use Rattle.ecc200_calls.proofs.modules.unpack_on.Given as goal
 
 -- The cells before this column are unpacked; the rest of the row follows.

@@ -1,6 +1,4 @@
-use Rattle.std.proofs.Common.{◌∙◌, ◌+◌, ◌-◌, ℕ, ◌++◌, ap, arith, take}
-use Rattle.ecc200_calls.specs.inner.UnpackedCells.{unpacked_cells}
-use Rattle.ecc200_calls.proofs.Rows.{behind_far}
+use Rattle.ecc200_calls.proofs.Names.{◌∙◌, ◌+◌, ◌-◌, ℕ, ◌++◌, ap, take, unpacked_cells}
 use Rattle.ecc200_calls.proofs.Unpacking.{row_written}
 use Rattle.ecc200_calls.proofs.modules.unpack_row.Goals as goal
 
@@ -12,13 +10,3 @@ returns-then-columns-gt-FIRST-clause-written c =
     c.if-columns-gt-FIRST.true c.min.ensures c.unpack_on.ensures.written
     (last.ensures.written ∙ ap (λ (n : ℕ). take (a.start + 128) c.unpack_on.new.all
     ++ unpacked_cells (a.columns - 128) n) c.from.ensures)
-
-pub returns-then-columns-gt-FIRST-clause-behind : goal.returns-then-columns-gt-FIRST-clause-behind
-returns-then-columns-gt-FIRST-clause-behind c =
-    let a = c.args in
-    let last = c.unpack_on-then-columns-gt-FIRST in
-    let far = a.start + a.columns + 16 in
-    behind_far last.new.all c.unpack_on.new.all (a.start + 128 + (a.columns - 128) + 16) far
-    (omega (arith, c.if-columns-gt-FIRST.true)) last.ensures.behind
-    ∙ behind_far c.unpack_on.new.all a.all.now (a.start + c.min.result + 16) far
-    (omega (arith, c.min.ensures)) c.unpack_on.ensures.behind

@@ -1,5 +1,4 @@
-use Rattle.std.proofs.Common.{arith, eqb, not, w8}
-use Rattle.std.proofs.lemmas.Simd.{bitmask_splat}
+use Rattle.ecc200_calls.proofs.Names.{arith, eqb, not, w8, bitmask_splat}
 use Rattle.ecc200_calls.proofs.modules.wide_dark_bits.Goals as goal
 
 pub returns : goal.returns

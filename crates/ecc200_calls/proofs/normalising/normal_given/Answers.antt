@@ -1,14 +1,7 @@
-use Rattle.std.proofs.Common.{Err, rules, refl, ◌∙◌, ap}
+use Rattle.ecc200_calls.proofs.Names.{Err, refl, IsNormalOrFault}
 use Rattle.dm_symbol.specs.declared.ContentNormalFault.TheVariants as of_content
-use Rattle.dm_symbol.specs.NormalOutcomes.{IsNormalOrFault}
-use Rattle.ecc200_calls.specs.Symbols.{no_symbol}
 use Rattle.ecc200_calls.proofs.OfGiven.{given_too}
-use Rattle.ecc200_calls.proofs.Rooms.{room_to_say}
 use Rattle.ecc200_calls.proofs.normalising.normal_given.Goals as goal
-
-pub normal_restored-requires : goal.normal_restored-requires
-normal_restored-requires g c =
-    (search rules, room_to_say _ _ _ _ c.args.given.size _ c.requires.room c.in-Ok.ensures.size)
 
 pub returns-in-Ok : goal.returns-in-Ok
 returns-in-Ok g c =
@@ -31,6 +24,6 @@ returns-in-Err g c =
       given = record {
         result = Err (of_content.Read c.in-Err.why);
         result_is = IsNormalOrFault.fault c.in-Err.why r.restored_or refl;
-        shown = c.show_fault.ensures ∙ ap (λ why. no_symbol why a.out.now) c.read_content_fault.ensures;
+        shown = cc;
       };
     }) c.in-Err.ensures.restored

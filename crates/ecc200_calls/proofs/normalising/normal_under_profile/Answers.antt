@@ -1,4 +1,4 @@
-use Rattle.ecc200_calls.specs.Symbols.{NormalisedResult}
+use Rattle.ecc200_calls.proofs.Names.{NormalisedResult}
 use Rattle.ecc200_calls.proofs.OfGiven.{normal_of_given}
 use Rattle.ecc200_calls.proofs.normalising.normal_under_profile.Goals as goal
 

@@ -1,7 +1,5 @@
-use Rattle.std.proofs.Common.{◌≡◌, ◌+◌, length}
-use Rattle.dm_place.specs.Placement.{ShapesInside, places_from, shapes}
-use Rattle.dm_layout.specs.symbols.Sizes.{codeword_count, mapping_columns, mapping_rows}
-use Rattle.ecc200_calls.specs.inner.PlaceSteps.{with_bits}
+use Rattle.ecc200_calls.proofs.Names.{◌≡◌, ◌+◌, length, ShapesInside, places_from, shapes, codeword_count}
+use Rattle.ecc200_calls.proofs.Names.{mapping_columns, mapping_rows, with_bits}
 use Rattle.ecc200_calls.proofs.place_table.put_bits.Given as goal
 
 abbrev pub invariant-loop-shape : goal.invariant-loop-shape

@@ -1,6 +1,4 @@
-use Rattle.std.proofs.Common.{◌≤◌, ◌*◌, ◌+◌, ◌∙◌, arith}
-use Rattle.std.proofs.Math.Nat.{mul-le-mul_right}
-use Rattle.ecc200_calls.specs.inner.PlaceSteps.{structure_place}
+use Rattle.ecc200_calls.proofs.Names.{◌≤◌, ◌*◌, ◌+◌, ◌∙◌, arith, mul-le-mul_right, structure_place}
 use Rattle.ecc200_calls.proofs.Structure.{row_put}
 use Rattle.ecc200_calls.proofs.place_table.put_structure.Goals as goal
 

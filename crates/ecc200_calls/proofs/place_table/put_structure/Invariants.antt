@@ -1,6 +1,5 @@
-use Rattle.std.proofs.Common.{◌≡◌, ◌*◌, ◌<◌, ◌≤◌, ℕ, get_or, length}
-use Rattle.ecc200_calls.specs.Places.{nothing, place_at}
-use Rattle.ecc200_calls.specs.inner.PlaceSteps.{structure_place}
+use Rattle.ecc200_calls.proofs.Names.{◌≡◌, ◌*◌, ◌<◌, ◌≤◌, ℕ, get_or, length, nothing, structure_place}
+use Rattle.ecc200_calls.specs.Places.{place_at}
 use Rattle.ecc200_calls.proofs.place_table.put_structure.Given as goal
 
 abbrev pub invariant-loop-row : goal.invariant-loop-row

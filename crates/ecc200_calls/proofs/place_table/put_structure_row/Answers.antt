@@ -1,7 +1,5 @@
-use Rattle.std.proofs.Common.{◌≡◌, ◌<◌, ◌≤◌, ◌*◌, ◌+◌, ◌∙◌, ap, arith, length}
-use Rattle.std.proofs.lemmas.List.{length-set}
-use Rattle.std.proofs.Math.Nat.{mul-le-mul_right}
-use Rattle.ecc200_calls.specs.inner.PlaceSteps.{structure_place}
+use Rattle.ecc200_calls.proofs.Names.{refl, ◌≡◌, ◌<◌, ◌≤◌, ◌*◌, ◌+◌, ◌∙◌, arith, length, length-set, mul-le-mul_right}
+use Rattle.ecc200_calls.proofs.Names.{structure_place}
 use Rattle.ecc200_calls.proofs.Structure.{module_put, module_kept}
 use Rattle.ecc200_calls.proofs.place_table.put_structure_row.Goals as goal
 
@@ -12,8 +10,7 @@ loop-column-preserved c =
     let row = c.args.row in
     let column = c.loop-column.column in
     let start = c.from.result * c.from-2.result in
-    let start_is : start ≡ row * s.columns =
-    ap (λ x. x * c.from-2.result) c.from.ensures ∙ ap (λ x. row * x) (c.from-2.ensures ∙ c.columns.ensures.value) in
+    let start_is : start ≡ row * s.columns = rw (c.from.ensures, c.from-2.ensures, c.columns.ensures.value) refl in
     let above : (row + 1) * s.columns ≤ s.rows * s.columns =
     mul-le-mul_right s.columns (omega (arith, c.requires.row)) in
     let inside : start + column < length c.loop-column.places =

@@ -1,6 +1,4 @@
-use Rattle.std.proofs.Common.{◌≡◌, ◌+◌, ◌<◌, ◌≤◌, ℕ, get_or, length}
-use Rattle.ecc200_calls.specs.Places.{nothing}
-use Rattle.ecc200_calls.specs.inner.PlaceSteps.{structure_place}
+use Rattle.ecc200_calls.proofs.Names.{◌≡◌, ◌+◌, ◌<◌, ◌≤◌, ℕ, get_or, length, nothing, structure_place}
 use Rattle.ecc200_calls.proofs.place_table.put_structure_row.Given as goal
 
 abbrev pub invariant-loop-column : goal.invariant-loop-column

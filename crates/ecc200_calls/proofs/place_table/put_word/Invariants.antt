@@ -1,7 +1,5 @@
-use Rattle.std.proofs.Common.{◌≡◌, drop, length}
-use Rattle.dm_place.specs.Placement.{CellsInside, bits_from}
-use Rattle.dm_layout.specs.symbols.Sizes.{mapping_rows, mapping_columns}
-use Rattle.ecc200_calls.specs.inner.PlaceSteps.{with_bits}
+use Rattle.ecc200_calls.proofs.Names.{◌≡◌, drop, length, CellsInside, bits_from, mapping_rows, mapping_columns}
+use Rattle.ecc200_calls.proofs.Names.{with_bits}
 use Rattle.ecc200_calls.proofs.place_table.put_word.Given as goal
 
 abbrev pub invariant-loop-cell : goal.invariant-loop-cell

@@ -1,5 +1,4 @@
-use Rattle.std.proofs.Common.{◌≡◌, drop, length, map, take}
-use Rattle.ecc200_calls.specs.Readings.{corrected_in, erased_in, left_in}
+use Rattle.ecc200_calls.proofs.Names.{◌≡◌, drop, length, map, take, corrected_in, erased_in, left_in}
 use Rattle.ecc200_calls.proofs.reading.put_counts.Given as goal
 
 abbrev pub invariant-loop-b : goal.invariant-loop-b

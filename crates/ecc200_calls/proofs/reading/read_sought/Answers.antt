@@ -1,4 +1,4 @@
-use Rattle.ecc200_calls.specs.Readings.{SoughtResult}
+use Rattle.ecc200_calls.proofs.Names.{SoughtResult}
 use Rattle.ecc200_calls.proofs.OfGiven.{read_of_given}
 use Rattle.ecc200_calls.proofs.reading.read_sought.Goals as goal
 

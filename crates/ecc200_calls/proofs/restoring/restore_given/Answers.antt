@@ -1,4 +1,4 @@
-use Rattle.ecc200_calls.specs.inner.Restored.{IsRestoredFor}
+use Rattle.ecc200_calls.proofs.Names.{IsRestoredFor}
 use Rattle.ecc200_calls.proofs.OfGiven.{doubted_given, sure_given}
 use Rattle.ecc200_calls.proofs.restoring.restore_given.Goals as goal
 

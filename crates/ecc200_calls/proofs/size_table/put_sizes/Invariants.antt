@@ -1,4 +1,4 @@
-use Rattle.std.proofs.Common.{◌≡◌, length, map, take}
+use Rattle.ecc200_calls.proofs.Names.{◌≡◌, length, map, take}
 use Rattle.ecc200_calls.specs.Sizes.{size_shown}
 use Rattle.ecc200_calls.proofs.size_table.put_sizes.Given as goal
 

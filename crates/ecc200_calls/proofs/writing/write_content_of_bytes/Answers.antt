@@ -1,4 +1,4 @@
-use Rattle.std.proofs.Common.{[], arith, refl}
+use Rattle.ecc200_calls.proofs.Names.{[], arith, refl}
 use Rattle.ecc200_calls.proofs.Written.{numbers_given}
 use Rattle.ecc200_calls.proofs.writing.write_content_of_bytes.Goals as goal
 

@@ -1,5 +1,4 @@
-use Rattle.std.proofs.Common.{inl, inr, ◌∙◌, ap, arith}
-use Rattle.ecc200_calls.specs.Symbols.{no_symbol}
+use Rattle.ecc200_calls.proofs.Names.{inl, inr, arith}
 use Rattle.ecc200_calls.proofs.Written.{too_long_given}
 use Rattle.ecc200_calls.proofs.writing.write_numbers.Goals as goal
 
@@ -12,4 +11,4 @@ returns-then-not-may_be_said c =
       | inl items ↦ inl (omega (arith, items))
       | inr marks ↦ inr (omega (arith, marks))
     ])
-    (c.show_fault.ensures ∙ ap (λ why. no_symbol why a.out.now) c.too_long.ensures)
+    (cc)

@@ -1,6 +1,4 @@
-use Rattle.std.proofs.Common.{[], ◌≤◌, ◌∙◌, ap, inl, arith}
-use Rattle.std.proofs.lemmas.List.Elements.{All-from_get_or}
-use Rattle.ecc200_calls.specs.Symbols.{no_symbol}
+use Rattle.ecc200_calls.proofs.Names.{[], ◌≤◌, inl, arith, All-from_get_or}
 use Rattle.ecc200_calls.proofs.Written.{too_long_given}
 use Rattle.ecc200_calls.proofs.writing.write_wanted_bytes.Goals as goal
 
@@ -10,4 +8,4 @@ returns-then-bytes-gt-LARGEST_ITEMS c =
     too_long_given a.wanted.form a.wanted.size a.wanted.head a.bytes.now [] a.out.now c.show_fault.new.out c.requires
     (All-from_get_or (λ number. number ≤ 256) a.bytes.now 0 (λ i inside. omega (arith, c.type_inv.bytes i)))
     (omega arith) (inl (omega (arith, c.if-bytes-gt-LARGEST_ITEMS.true)))
-    (c.show_fault.ensures ∙ ap (λ why. no_symbol why a.out.now) c.too_long.ensures)
+    (cc)
