@@ -5,7 +5,8 @@ import { ECI_UTF_8, contentOf } from "./contents.mjs";
 
 /** @typedef {import("./contents.mjs").Content} Content */
 /** @typedef {{ text: string | null, charset: string }} Text of a content, null where some of it is none, and the
-    charset by whose name it should be; of several the names stand with commas between, in the order in which they come */
+    charset by whose name it should be; of several the names stand with commas between, in the order in which they
+    come */
 const LATIN_1 = "iso-8859-1", UTF_8 = "utf-8", ASCII_TEXT = "us-ascii", IBM_437 = "ibm437";
 const PART_16 = "iso-8859-16", WINDOWS_1252 = "windows-1252";
 const ECI_LATIN_1 = 3, ECI_BINARY = 899;

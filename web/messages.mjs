@@ -9,8 +9,8 @@ import { PROGRAMMING, contentOf } from "./contents.mjs";
 /** @typedef {{ column?: number, why?: string, ways?: { name: string, text: string }[], isTooMuch?: boolean,
     isElements?: boolean, isText?: boolean }} Fault of a text: why it isn't taken, and where; and how else it may be
     spelled */
-/** @typedef {Fault & { content?: Content, contents?: Content[] }} Taken what a text stands for, and all contents by which
-    it may be written, if there are several; or why it isn't taken */
+/** @typedef {Fault & { content?: Content, contents?: Content[] }} Taken what a text stands for, and all contents by
+    which it may be written, if there are several; or why it isn't taken */
 /** @type {(text: string, isValue?: boolean) => Taken} */
 export function parse(text, isValue = false) {
   const { head, length } = isValue ? NO_HEAD : headIn(text);
