@@ -26,18 +26,18 @@ static bool turn_to(struct search *search, const struct plane *picture) {
     return is_made;
 }
 
-/* Searches what a picture was made into, of which `scale` pixels are one of it, for symbols that weren't found. The
- * plane is freed. */
+/* Searches what a picture was made into, of which `scale` pixels are one of it, for symbols that weren't found. What
+ * isn't read there may be no symbol, and isn't told. The plane is freed. */
 static void search_remade(struct search *search, struct plane *remade, int scale) {
-    struct unread *unread = &search->judge.unread;
+    size_t room_for_unread = search->judge.unread.room;
     scale_symbols(search->found, search->count, scale);
-    scale_symbols(unread->items, unread->count, scale);
+    search->judge.unread.room = 0;
     if (turn_to(search, remade))
         search_picture(search, remade, true);
     else
         plane_free(remade);
     scale_symbols(search->found, search->count, 1.0 / scale);
-    scale_symbols(unread->items, unread->count, 1.0 / scale);
+    search->judge.unread.room = room_for_unread;
 }
 
 /* The picture as a share of its ground. */
@@ -86,6 +86,7 @@ static void look_again(struct search *search, const struct plane *picture, size_
         (int64_t)picture->width * picture->height > LOOKS[k].most_pixels ||
         (LOOKS[k].is_for_drawings && !is_drawn(picture)))
         return;
+    search->judge.original = picture, search->judge.scale_of_original = LOOKS[k].scale;
     bool is_made = LOOKS[k].make(picture, limit, &remade);
     note_lack(search, is_made);
     if (is_made)

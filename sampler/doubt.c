@@ -10,14 +10,14 @@ static const double FLAT = 0.14, WRONG = 0.35;
 
 /* ---- What a symbol and its surroundings look like */
 
-static void look_at_module(const struct plane *picture, const struct warp *warp, int x, int y, struct looks *out,
-                           int at) {
+static void look_at_module(const struct plane *picture, bool is_inverted, const struct warp *warp, int x, int y,
+                           struct looks *out, int at) {
     double total = 0, least = 255;
     out->is_outside[at] = 0;
     for (int k = 0; k < POINTS * POINTS; k++) {
         struct point point =
             warp_point(warp, x + 0.5 + APART * (k % POINTS - 1), y + 0.5 + APART * (k / POINTS - 1));
-        double here = brightness(picture, point);
+        double level = brightness(picture, point), here = is_inverted ? 255 - level : level;
         total += here, least = here < least ? here : least;
         out->is_outside[at] |= !shows(picture, point);
     }
@@ -25,11 +25,12 @@ static void look_at_module(const struct plane *picture, const struct warp *warp,
     out->least[at] = (uint8_t)least;
 }
 
-static void look(const struct plane *picture, const struct layout *layout, const struct warp *warp, struct looks *out) {
+static void look(const struct plane *picture, bool is_inverted, const struct layout *layout, const struct warp *warp,
+                 struct looks *out) {
     out->extent = (struct extent){layout->extent.wide + 2 * RING, layout->extent.high + 2 * RING};
     for (int y = 0, at = 0; y < out->extent.high; y++)
         for (int x = 0; x < out->extent.wide; x++, at++)
-            look_at_module(picture, warp, x - RING, y - RING, out, at);
+            look_at_module(picture, is_inverted, warp, x - RING, y - RING, out, at);
 }
 
 static int known_at(const struct looks *looks, const struct layout *layout, int at) {
@@ -173,13 +174,13 @@ static void mark_flat(struct looks *looks, const struct layout *layout, const st
     }
 }
 
-int find_doubt(const struct plane *picture, const struct layout *layout, const struct warp *warp, int beside,
-               struct looks *room, uint8_t *doubtful) {
+int find_doubt(const struct plane *picture, bool is_inverted, const struct layout *layout, const struct warp *warp,
+               int beside, struct looks *room, uint8_t *doubtful) {
     struct levels levels;
     int wide = layout->extent.wide, count = 0;
-    look(picture, layout, warp, room);
+    look(picture, is_inverted, layout, warp, room);
     for (int k = 0; k < wide * layout->extent.high; k++)
-        doubtful[k] = room->is_outside[(k / wide + RING) * room->extent.wide + k % wide + RING];
+        doubtful[k] |= room->is_outside[(k / wide + RING) * room->extent.wide + k % wide + RING];
     if (find_levels(room, layout, &levels))
         mark_flat(room, layout, &levels, beside, doubtful);
     for (int k = 0; k < wide * layout->extent.high; k++)

@@ -318,6 +318,22 @@ static void try_undone(struct trials *trials, bool is_mirrored) {
         hand_on_untrusted(trials);
 }
 
+/* Finds what the picture shows to be damaged, and what the one that it was made of does, whose damage may look sound in
+ * it. Returns how many modules are doubtful. */
+static int find_damage(struct judge *judge, const struct layout *layout, const struct warp *warp, int beside) {
+    struct warp of_original = *warp;
+    memset(judge->doubtful, 0, sizeof judge->doubtful);
+    spend(judge, layout, WORK_OF_LOOKING);
+    int count = find_doubt(judge->picture, false, layout, warp, beside, &judge->looks, judge->doubtful);
+    if (judge->original == NULL)
+        return count;
+    for (int k = 0; k < 2 * 3; k++)
+        of_original.to_picture.m[k / 3][k % 3] *= judge->scale / judge->scale_of_original;
+    spend(judge, layout, WORK_OF_LOOKING);
+    return find_doubt(judge->original, judge->is_inverted, layout, &of_original, beside, &judge->looks,
+                      judge->doubtful);
+}
+
 /* Tries the placement as it is once more, without what the picture shows to be damaged: first with what its edges cut,
  * and then without that, too. */
 static void try_known_damage(struct trials *trials, struct lie *lie, struct brightnesses *brightnesses) {
@@ -325,8 +341,7 @@ static void try_known_damage(struct trials *trials, struct lie *lie, struct brig
     const struct layout *layout = trials->layout;
     *lie = (struct lie){.region = layout->extent, .warps = {*trials->warp}};
     for (int beside = 0; beside <= 1 && trials->best_cost < 0 && !limit_reached(judge->limit); beside++) {
-        spend(judge, layout, WORK_OF_LOOKING);
-        if (find_doubt(judge->picture, layout, trials->warp, beside, &judge->looks, judge->doubtful) == 0)
+        if (find_damage(judge, layout, trials->warp, beside) == 0)
             return;
         if (beside == 0)
             sample_modules(judge->picture, layout, lie, brightnesses);

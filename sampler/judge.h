@@ -17,6 +17,8 @@ struct judge {
     bool has_no_memory;                     /* whether memory was wanted that isn't there */
     bool is_inverted;                       /* whether `picture` is the picture inverted */
     bool is_thick;                          /* whether it is of dots made thicker, which show no damage */
+    const struct plane *original;           /* what the picture that is searched was made of, or NULL */
+    double scale_of_original;               /* how many pixels of the picture that is searched one of that is */
     double scale;                           /* how many pixels of the picture that is searched one of `picture` is */
     ecc200_sample *trial;                   /* room for a candidate */
     uint8_t seen[MOST_MODULES];             /* its modules as the picture shows them, in a mirror perhaps */

@@ -1,4 +1,5 @@
 """Known damage: modules that lie outside of the picture, in a glare, beyond a torn edge or under a blot."""
+import itertools
 import json
 import math
 import random
@@ -124,19 +125,19 @@ class Damage:
 
     def test_evidence(self):
         """Where doubtful modules leave no more than two checks alone, a symbol is read if its border has no fault, and
-        only then: else what lies beside a symbol may be taken for the rest of a smaller one."""
-        for message, down, right in (("ABC", 6, 6), ("ABCDE", 4, 7), ("ABCDEFGH", 5, 9)):
-            for faults in ((), ((0, 3),)):
-                grid = grid_of(message)
-                for row, column in faults:
-                    grid[row][column] ^= 1
-                rows = pixels_of(grid, SCALE, QUIET)
-                for row in rows[(QUIET + down) * SCALE:(QUIET + len(grid) + 2) * SCALE]:
-                    row[(QUIET + right) * SCALE:(QUIET + len(grid) + 2) * SCALE] = [120] * ((len(grid) + 2 - right)
-                                                                                            * SCALE)
-                said = asked(self.sampler, rows)
-                self.row(f"side {len(grid)} without a corner, {len(faults)} faults",
-                         (said.get("message"), said.get("left")), (None, None) if faults else (message, [2]))
+        only then: else what lies beside a symbol may be taken for the rest of a smaller one. Small ones are read by a
+        second look."""
+        corners = (("ABC", 6, 6), ("ABCDE", 4, 7), ("ABCDEFGH", 5, 9))
+        for scale, (message, down, right), faults in itertools.product((SCALE, 2), corners, ((), ((0, 3),))):
+            grid = grid_of(message)
+            for row, column in faults:
+                grid[row][column] ^= 1
+            rows, last = pixels_of(grid, scale, QUIET), len(grid) + 2
+            for row in rows[(QUIET + down) * scale:(QUIET + last) * scale]:
+                row[(QUIET + right) * scale:(QUIET + last) * scale] = [120] * ((last - right) * scale)
+            said = asked(self.sampler, rows)
+            self.row(f"side {len(grid)} without a corner, {len(faults)} faults, {scale} pixels a module",
+                     (said.get("message"), said.get("left")), (None, None) if faults else (message, [2]))
 
     def test_margin_with_doubt(self):
         """A margin counts where modules are doubtful, too."""
