@@ -8,6 +8,7 @@ import random
 import signal
 import sys
 import tempfile
+import threading
 import traceback
 
 from tests.page import browser
@@ -16,6 +17,7 @@ from tests.page.stage import count, expect, on
 from tests.support import places
 
 BROWSERS = min(4, os.cpu_count() or 1)
+TO_END = 60  # seconds, in which the processes have to end by themselves
 
 
 def begin(folder):
@@ -33,6 +35,11 @@ def at_work():
     with tempfile.TemporaryDirectory(ignore_cleanup_errors=True) as folder:
         with context.Pool(BROWSERS, begin, (folder,)) as pool:
             yield pool
+            # (without a signal, which a process may miss that is about to wait; what hangs or fails is ended by one)
+            pool.close()
+            ending = threading.Thread(target=pool.join, daemon=True)
+            ending.start()
+            ending.join(TO_END)
 
 
 def rows_of(name, page):
