@@ -6,6 +6,7 @@ import pty
 import struct
 import subprocess
 import termios
+import time
 from unittest import mock
 
 from tests import corpus
@@ -55,20 +56,27 @@ def outcome(call, *given, **more):
         return why.code, why.value, why.place
 
 
-def at_terminal(stream, words, given=b"", columns=80):
+def at_terminal(stream, words, given=b"", columns=80, begun_with=b""):
     """Runs the command with a terminal for one of its streams: its status, what is seen there, and what it says on the
-    others."""
+    others. What it is begun with comes first: its first answer is waited for, and then more than a second."""
     leader, follower = pty.openpty()
     fcntl.ioctl(follower, termios.TIOCSWINSZ, struct.pack("4H", 25, columns, 0, 0))
     streams = {"stdout": subprocess.PIPE, "stderr": subprocess.PIPE, stream: follower}
-    done = subprocess.run([*WORDS, *words], input=given, env=environment(), timeout=300, **streams)
+    with subprocess.Popen([*WORDS, *words], stdin=subprocess.PIPE, env=environment(), **streams) as done:
+        answer = b""
+        if begun_with:
+            done.stdin.write(begun_with)
+            done.stdin.flush()
+            answer = done.stdout.readline()
+            time.sleep(1.2)
+        output, errors = done.communicate(given, timeout=300)
     os.close(follower)
     seen = b""
     with contextlib.suppress(OSError):  # the end, as Linux tells it
         while True:
             seen += os.read(leader, 65536)
     os.close(leader)
-    return done.returncode, seen, done.stdout, done.stderr
+    return done.returncode, seen, output and answer + output, errors
 
 
 def environment():

@@ -133,11 +133,11 @@ class Comparing(PackageCase):
 
     def test_at_a_terminal(self):
         """Long work tells on a terminal how far it is, and only there."""
-        given = text(ecc200.write(b"123456")).encode() * 60_000
-        status, said, output, _ = at_terminal("stderr", ["check"], given)
+        given = text(ecc200.write(b"123456")).encode()
+        status, said, output, _ = at_terminal("stderr", ["check"], given * 999, begun_with=given)
         self.holds("progress", re.search(rb"[\d,]+ symbols read, [\d,]+ a second", said) is not None
                    and status == 0, repr(said[-200:]))
-        self.row("its answers", output.count(b"\n"), 60_000)
+        self.row("its answers", output.count(b"\n"), 1_000)
         first = subprocess.Popen([*WORDS, "read"], stdin=subprocess.PIPE, stdout=subprocess.PIPE,
                                  stderr=subprocess.PIPE, env=environment())
         first.stdin.write(text(ecc200.write(b"123456")).encode())
