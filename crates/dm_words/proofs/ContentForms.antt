@@ -89,11 +89,6 @@ pub marks_within : (least most : ℕ) (marks : List Mark) → AreMarks least mos
 marks_within least most [] are = are
 marks_within least most (m ∷ marks) are = (let r = marks_within m.place most marks are.2 in omega (arith, are.0, r))
 
--- A mark is its place and its number.
-same_mark : (m : Mark) (place : ℕ) → place ≡ m.place
-    → (let n : Mark = record { place = place; number = m.number } in n) ≡ m
-same_mark m place e = rw e refl
-
 -- The ASCII form of items is what units say.
 ascii_parts : (before : ℕ) (items : List Item) (rest : List (Piece Said)) (words : List ℕ) (marks : List Mark)
     → AreItems items → AllByRecursion IsFree rest → words ≡ spelled rest

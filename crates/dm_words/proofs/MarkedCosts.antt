@@ -211,13 +211,6 @@ between low least most total (m ∷ marks) d are le each = (
 
 -- ---- turns of the loops
 
--- A turn from the last mark to the first counts a mark and the items behind it.
-pub cost_turn : (seen : ℕ) (items : List Item) (marks : List Mark) (k place number end cost text count : ℕ)
-    → IsBack seen items marks k place number end → cost ≡ behind_first seen items (drop k marks)
-    → text ≡ parts_cost (before_words cost) (take (end - (place - seen)) (drop (place - seen) items))
-    → count ≡ length (eci_word ∷ designator number) → count + text ≡ behind_first seen items (drop (k - 1) marks)
-cost_turn seen items marks k place number end cost text count b is is_text is_count = cc
-
 -- It keeps what follows the items before the mark.
 pub behind_turn : (seen : ℕ) (items : List Item) (marks : List Mark) (k cost : ℕ) (behind : List ℕ) → 0 < k
     → k ≤ length marks → length marks ≤ length behind → cost ≡ behind_first seen items (drop (k - 1) marks)

@@ -1,7 +1,7 @@
 -- What codewords say is a content: bytes of 0 to 255, and marks in order.
 use Rattle.dm_words.proofs.Names.{◌≡◌, ℕ, ◌+◌, ◌≤◌, ◌<◌, List, [], ◌∷◌, ◌++◌, length, sym, subst, arith, length-append}
-use Rattle.dm_words.proofs.Names.{AllByRecursion, All-from_recursion, Extent, Opening, IsItem, IsMessage, Item}
-use Rattle.dm_words.proofs.Names.{as_content, Spells, Piece, spelled, whats, AreJoined, most_assigned, IsDesignator}
+use Rattle.dm_words.proofs.Names.{AllByRecursion, All-from_recursion, Extent, Opening, IsItem}
+use Rattle.dm_words.proofs.Names.{Piece, spelled, whats, AreJoined, most_assigned, IsDesignator}
 use Rattle.dm_words.proofs.Names.{IsHead, ContentView, AreMarks, IsContent, Said, Items, Number, IsContentPart, part}
 use Rattle.dm_words.proofs.Names.{mark, said_items, said_marks, IsOpening, headed, framed, plain, opening_head}
 use Rattle.dm_words.proofs.Names.{opening_items, closing_items, said_content, AreContentParts, Says}
@@ -108,7 +108,3 @@ said_is_content extent words l s =
     subst (AllByRecursion IsRight) (sym s.parts.said_are)
     (parts_right extent s.place s.parts.parts s.parts.after s.parts.joined) in
     subst IsContent (sym s.content_is) (said_right _ s.said (opening_right _ _ _ _ s.opened.is_opening) right)
-
--- What they spell is a message.
-pub spelled_is_message : (extent : Extent) (words : List ℕ) (m : List Item) → Spells extent words m → IsMessage m
-spelled_is_message extent words m s = (said_is_content extent words (as_content m) s).items

@@ -1,16 +1,15 @@
 -- How many modules of a border may have the wrong colour.
-use Rattle.ecc200_calls.proofs.Names.{◌≡◌, ℕ, ◌<◌, ◌≤◌, List, Option, Some, None, Result, Ok, Err, sym, subst, ◌∙◌}
-use Rattle.ecc200_calls.proofs.Names.{arith, All, IfErr, OnOk, Extent, ContentReadFault, SymbolView, WordsView}
+use Rattle.ecc200_calls.proofs.Names.{◌≡◌, ℕ, ◌<◌, ◌≤◌, List, Option, Some, None, Err, sym, subst, ◌∙◌}
+use Rattle.ecc200_calls.proofs.Names.{arith, All, Extent, ContentReadFault, SymbolView, WordsView}
 use Rattle.ecc200_calls.proofs.Names.{ContentReadResult, AreLight, faults_alike, none_lost, restored_alike}
 use Rattle.ecc200_calls.proofs.Names.{restored_back, restored_is_one, said_alike, IsLimit, IsSureLimit}
-use Rattle.ecc200_calls.proofs.Names.{LeavesCorrection, LeavesCorrections, usual_limit, IsRestored, IsRestoredFor}
+use Rattle.ecc200_calls.proofs.Names.{LeavesCorrection, LeavesCorrections}
 use Rattle.dm_symbol.specs.declared.BlockReading.{BlockReading}
 use Rattle.dm_symbol.specs.declared.Dealing.{Dealing}
 use Rattle.dm_symbol.specs.Doubt.{sure_fault_count}
 use Rattle.dm_symbol.specs.declared.ContentFault.{ContentFault}
 use Rattle.dm_symbol.specs.declared.ContentReadFault.TheVariants as fault
 use Rattle.dm_symbol.specs.Restored as whole
-use Rattle.ecc200_calls.specs.declared.restoring.Restored.{Restored}
 use Rattle.ecc200_calls.specs.declared.scan.BorderLimit.{BorderLimit}
 use Rattle.ecc200_calls.specs.declared.scan.BorderLimit.TheVariants.{Modules, Sure}
 
@@ -103,28 +102,3 @@ module _ (extent : Extent) (symbol : SymbolView) (doubtful : Option SymbolView) 
   few_of_fault why other (ContentReadResult.block words index few lost e) = few
   few_of_fault why other (ContentReadResult.words d words codewords refused few restored is e) = few
   few_of_fault why other (ContentReadResult.content d words codewords content number few restored said is e) = few
-
--- What is restored at as many border faults as there are, where each block then leaves a correction unused, is restored
--- at as many as are sure; and so is the fault where none does.
-pub sure_for : {A : Type 0} (extent : Extent) (symbol : SymbolView) (doubtful : Option SymbolView) (usual count : ℕ)
-    (result : Result A ContentReadFault) (words : WordsView) (restored : Restored)
-    → usual ≡ usual_limit symbol.size.rows symbol.size.columns
-    → ContentReadResult extent symbol doubtful usual (Err (fault.Border count))
-    → OnOk result (LeavesCorrections extent symbol doubtful)
-    → OnOk result (IsRestored extent symbol doubtful count words restored)
-    → IfErr result (λ why. (why ≡ fault.Border count) × (LeavesCorrections extent symbol doubtful → ⊥))
-    → IsRestoredFor Sure extent symbol doubtful result words restored
-sure_for extent symbol doubtful usual count (Ok done) words restored is_usual first left are none =
-    let border = border_of_fault extent symbol doubtful usual count first in
-    record {
-      limit = count;
-      limit_is = IsSureLimit.sure (rw is_usual at border.0) left border.1;
-      restored_or = are;
-    }
-sure_for extent symbol doubtful usual count (Err why) words restored is_usual first left are none =
-    let border = border_of_fault extent symbol doubtful usual count first in
-    record {
-      limit = usual;
-      limit_is = IsSureLimit.unsure (rw is_usual at border.0) none.1 is_usual;
-      restored_or = rw none.0 first;
-    }

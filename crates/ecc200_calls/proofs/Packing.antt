@@ -1,15 +1,13 @@
 -- Rows of modules that are packed into one number, module after module from the right.
 use Rattle.ecc200_calls.proofs.Names.{◌≡◌, ◌≢◌, ℕ, zero, suc, ◌+◌, ◌-◌, ◌*◌, ◌/◌, ◌%◌, ◌^◌, ◌<◌, ◌≤◌, Bool, true, false}
-use Rattle.ecc200_calls.proofs.Names.{cond, nat_eq, List, [], length, get_or, refl, sym, ◌∙◌, ap, arith, mul_comm, Fits}
-use Rattle.ecc200_calls.proofs.Names.{map, take, drop, bit_or, inl, inr, Fits-bits, pow-suc, div-div-eq-div-mul}
+use Rattle.ecc200_calls.proofs.Names.{cond, nat_eq, List, [], length, get_or, refl, sym, ◌∙◌, ap, arith, mul_comm}
+use Rattle.ecc200_calls.proofs.Names.{map, take, drop, bit_or, inl, inr, pow-suc, div-div-eq-div-mul}
 use Rattle.ecc200_calls.proofs.Names.{mul-le-mul_right, mod-eq_of_lt, get_or-map, length-drop, length-map, take_all}
 use Rattle.ecc200_calls.proofs.Names.{get_or-drop, cases_lt, bit_mask_l, mask_l-lt, length-chunk, get_or-chunk}
 use Rattle.ecc200_calls.proofs.Names.{range_with_len, All-get_or, fill_by_all, area, AreModulesOf, SymbolView, IsSymbol}
 use Rattle.ecc200_calls.proofs.Names.{module_at, is_dark_bit, is_dark}
-use Rattle.std.specs.Int.{w16}
 use mir.Val.{bool_byte as from_bool}
 use Rattle.std.proofs.Math.Pow.{pow_mono}
-use Rattle.std.proofs.lemmas.Nat.{pow_below}
 use Rattle.std.specs.Simd.Lanes.{mask_l, chunk}
 use Rattle.std.specs.Int.Bits.{or_shifted_r}
 use Rattle.std.proofs.lemmas.Nat.{pow-add}
@@ -32,12 +30,6 @@ from_bool_one false = refl
 -- One more bit behind i bits are i + 1 bits.
 pub packed_small : (row i : ℕ) (b : Bool) → row < 2 ^ i → 2 * row + from_bool b < 2 ^ (i + 1)
 packed_small row i b h = omega (arith, pow_next i, from_bool_small b, h)
-
--- A number of 16 bits has room for i + 1 bits where i is below 15.
-pub packed_fits : (row i : ℕ) (b : Bool) → row < 2 ^ i → i < 15 → Fits w16 (2 * row + from_bool b)
-packed_fits row i b h l =
-    let k : 2 ^ (i + 1) < 2 ^ 16 = pow_below (i + 1) 16 (omega arith) in
-    Fits-bits 16 tt (omega (arith, k, packed_small row i b h))
 
 -- The bit that is added comes first.
 dark_first : (row : ℕ) (b : Bool) → is_dark_bit (2 * row + from_bool b) 0 ≡ b

@@ -3,7 +3,7 @@ use Rattle.ecc200_calls.proofs.Names.{◌≡◌, ℕ, zero, suc, ◌+◌, ◌*�
 use Rattle.ecc200_calls.proofs.Names.{Some, length, length-take, refl, arith, rules, find, list_all, and_parts}
 use Rattle.ecc200_calls.proofs.Names.{leb-true, le-leb, recursion_from_All, AllPass-from_list_all, Extent, Usual, Wide}
 use Rattle.ecc200_calls.proofs.Names.{most_spelled, SizeEntry, IsSize, codeword_count, most_codewords, WordsView}
-use Rattle.ecc200_calls.proofs.Names.{IsWords, data_of, at_found, size_facts, HasRoomToSay}
+use Rattle.ecc200_calls.proofs.Names.{IsWords, data_of, at_found, size_facts}
 use Rattle.dm_symbol.specs.Messages.{most_data}
 use Rattle.dm_layout.specs.symbols.Sizes.{size_table}
 use Rattle.ecc200_calls.specs.inner.Rooms.{IsRoom, HasRoom}
@@ -60,13 +60,6 @@ module _ (most rows words : ℕ) (each : list_all (fits most rows words) size_ta
         marked = omega (arith, le, enough_marks);
         few_marks = few_marks;
       }
-
--- A room for a symbol has room for what symbols of its size say.
-pub room_to_say : (rows words items marks : ℕ) (size other : SizeEntry) → HasRoom rows words items marks size
-    → other ≡ size → HasRoomToSay items marks other.data_count
-room_to_say rows words items marks size other has same =
-    rw same
-    (record { spelled = has.spelled; most = has.most; marked = has.marked; few_marks = has.few_marks })
 
 -- There is room in the small room, in the middle one, and in the largest.
 pub small_room : (size : SizeEntry) → IsSize size → size.data_count ≤ 62 → HasRoom 32 98 131 31 size
