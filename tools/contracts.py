@@ -3,6 +3,7 @@ that these cite. tools/definitions and tools/clauses tell it."""
 import collections
 import functools
 import glob
+import itertools
 import os
 import re
 
@@ -89,6 +90,63 @@ def definitions(top, crate):
             if declared and "pub" in declared[1].split() and len(declared[1].split()) > 1:
                 found.append(Definition(crate, module_of(path), declared[2], path, at + 1,
                                         comment_above(lines, at, "--")))
+    return found
+
+
+@functools.cache
+def by_place(top):
+    """All public definitions by their crate, module and name."""
+    return {(it.crate, it.module, it.name): it for crate in crates(top) for it in definitions(top, crate)}
+
+
+@functools.cache
+def handed_on(top):
+    """What files of specs/ pass on of others: by crate, module and name the crate and the module that it comes from,
+    and for a whole module, which the crate's list passes on, without a name."""
+    found = {}
+    for crate in crates(top):
+        for path in paths(top, "crates", crate, "specs", "**", "*.antt"):
+            for of, module, names in re.findall(r"^pub use Rattle\.(\w+)\.specs\.([\w.]*\w)(?:\.\{([^}]*)\})?$",
+                                                text(top, path), re.M):
+                here = module_of(path) if names else name_of(module.replace(".", os.sep))
+                found.update({(crate, here, name.strip()): (of, module) for name in names.split(",")})
+    return found
+
+
+def home(top, crate, module, name):
+    """Where it is defined what is found in a module by a name."""
+    for key in ((crate, module, name), (crate, module, "")):
+        if key in handed_on(top):
+            return home(top, *handed_on(top)[key], name)
+    return crate, module, name
+
+
+@functools.cache
+def named_by(top, definition):
+    """The definitions that a definition names in its own lines, which end with an empty one, but for itself."""
+    source = text(top, definition.path)
+    own = itertools.takewhile(str.strip, source.splitlines()[definition.line - 1:])
+    known = names_cited(source)
+    known.update({operator.strip("◌"): place for operator, place in known.items() if operator.startswith("◌")})
+    others = dict((here, (crate, module)) for crate, module, here in
+                  re.findall(r"^use Rattle\.(\w+)\.specs\.([\w.]+) as (\w+)$", source, re.M))
+    found = set()
+    for word in re.findall(r"[^\s(){}\[\],;]+", " ".join(line.split("--")[0] for line in own)):
+        module, _, name = word.partition(".")
+        place = (*others[module], name) if module in others else known.get(
+            word, known.get(module, (definition.crate, definition.module, word)))
+        found.add(by_place(top).get(home(top, *place)))
+    return found - {None, definition}
+
+
+def rests_on(top, definition):
+    """A definition with all that it rests on: those that it names, those that these name, and so on. What std has isn't
+    among them, nor are constructors, fields and types of the code."""
+    found, left = {definition}, [definition]
+    while left:
+        new = named_by(top, left.pop()) - found
+        found |= new
+        left += new
     return found
 
 

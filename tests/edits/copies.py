@@ -28,8 +28,7 @@ use {module}.Statement.{{statement}}
 pub {name}_spec : {{M : Type 1}} → statement M
 {name}_spec = proved_elsewhere
 """
-# A declaration that is refused. Where the answers for a function end with one, the toolchain doesn't run once more to
-# offer answers for open goals.
+# A declaration that is refused, behind which the toolchain doesn't run once more to offer answers for open goals.
 REFUSED = "nothing_is_offered"
 NO_OFFERS = f"\n{REFUSED} : ⊥\n{REFUSED} = tt\n"
 # What the toolchain says where a proof names what an edit took away, which says little of the contract.
@@ -39,8 +38,7 @@ OPENS_IMPL = r"()impl(?:<.*?>)? (?:([\w:]+)(?:<.*>)? for )?(\w+)"
 # What is said where the crates below aren't proved.
 LACKING = "not proved as they stand: {}; run `rt lib` in each, or `make build`, first"
 
-# A function of a file: its path below the crate, as a check prints it, the line where its comment begins, its own first
-# line, and the line after it.
+# A function of a file: its path below the crate, the lines where its comment and itself begin, and the line after.
 Function = collections.namedtuple("Function", "path file above start end is_of_trait")
 # The wrong body of a function: the name of the edit, and the lines that the function then has.
 Edit = collections.namedtuple("Edit", "name function lines")
@@ -49,8 +47,7 @@ Said = collections.namedtuple("Said", "is_proved own")
 
 
 def enclosing(opens, lines, at):
-    """The items that hold line at, outermost first: each one's first line, the line after it, and the match of its
-    first line."""
+    """The items that hold line at, outermost first: of each its first line, the line after it, and a match."""
     found = []
     for start, line in enumerate(lines[:at]):
         if match := re.match(opens, line):
@@ -75,8 +72,7 @@ def function_at(lines, at, file):
 
 
 def body_of(lines, start):
-    """Where the lines in the braces of the function that starts at a line begin and end, or None where it has no such
-    lines."""
+    """Where the lines in the braces of the function that starts at a line begin and end; None where it has none."""
     indent = re.match(" *", lines[start])[0]
     for at in range(start, len(lines)):
         ends_head = at == start or lines[at].startswith(indent + ")")
@@ -88,28 +84,25 @@ def body_of(lines, start):
 
 
 def read_edits(crate, name):
-    """Reads an edit of the toolchain's format: lines `file:`, and pairs of lines `old:` and `new:`, of which the old
-    text stands in the file once. Gives an edit for each function that it changes, by itself; one that a later pair
-    changes back isn't changed."""
+    """Reads an edit of the toolchain's format: `file:`, and pairs of `old:` and `new:`, of which the old text stands in
+    the file once. Gives an edit for each function that it changes and that a later pair doesn't change back."""
     path, texts, were, functions = crates.folder(crate, "must-fail", f"{name}.edit"), {}, {}, {}
-    with open(path, encoding="utf-8") as lines:
-        for line in lines.read().split("\n"):
-            if line.startswith("file: "):
-                file = line[len("file: ") :]
-                if file not in texts:
-                    with open(crates.folder(crate, file), encoding="utf-8") as source:
-                        texts[file] = were[file] = source.read()
-            elif line.startswith("old: "):
-                old = line[len("old: ") :]
-            elif line.startswith("new:"):
-                text = texts[file]
-                if text.count(old) != 1:
-                    raise ValueError(f"{path}: {old!r} stands in {file} {text.count(old)} times")
-                texts[file] = text.replace(old, line[len("new: ") :])
-                function = function_at(texts[file].split("\n"), text[: text.index(old)].count("\n"), file)
-                if not function:
-                    raise ValueError(f"{path}: no function holds {old!r}")
-                functions[function] = None
+    for line in places.text_of(path).split("\n"):
+        if line.startswith("file: "):
+            file = line[len("file: ") :]
+            if file not in texts:
+                texts[file] = were[file] = places.text_of(crates.folder(crate, file))
+        elif line.startswith("old: "):
+            old = line[len("old: ") :]
+        elif line.startswith("new:"):
+            text = texts[file]
+            if text.count(old) != 1:
+                raise ValueError(f"{path}: {old!r} stands in {file} {text.count(old)} times")
+            texts[file] = text.replace(old, line[len("new: ") :])
+            function = function_at(texts[file].split("\n"), text[: text.index(old)].count("\n"), file)
+            if not function:
+                raise ValueError(f"{path}: no function holds {old!r}")
+            functions[function] = None
     lines_of = lambda text, it: text.split("\n")[it.start : it.end]
     changed = [it for it in functions if lines_of(texts[it.file], it) != lines_of(were[it.file], it)]
     if not changed:
@@ -122,10 +115,10 @@ def unchanged(crate, edits):
     """The functions beside which these edits stand, as edits that change nothing."""
     found = {}
     for edit in edits:
-        with open(crates.folder(crate, edit.function.file), encoding="utf-8") as source:
-            lines = source.read().split("\n")[edit.function.start : edit.function.end]
-        if not edit.function.is_of_trait:
-            found[edit.function] = Edit(edit.name, edit.function, lines)
+        it = edit.function
+        lines = places.text_of(crates.folder(crate, it.file)).split("\n")[it.start : it.end]
+        if not it.is_of_trait:
+            found[it] = Edit(edit.name, it, lines)
     return list(found.values())
 
 
@@ -135,23 +128,20 @@ def judged(edit):
 
 
 def write_copy(crate, edits, room):
-    """Writes a copy of the crate with these edits."""
     for part in ("src", "specs", "proofs"):
         if os.path.isdir(crates.folder(crate, part)):
             shutil.copytree(crates.folder(crate, part), os.path.join(room, part))
     # (from the last line of a file up, so that the lines above keep their numbers)
     for edit in sorted(edits, key=lambda it: -it.function.start):
         function, path = edit.function, os.path.join(room, edit.function.file)
-        with open(path, encoding="utf-8") as source:
-            lines = source.read().split("\n")
+        lines = places.text_of(path).split("\n")
         if function.is_of_trait:
             lines[function.start : function.end] = edit.lines
         else:
             head = re.sub(r"\bfn \w+", f"fn {edit.name}", edit.lines[0])
             lines[function.end : function.end] = ["", *lines[function.above : function.start], head, *edit.lines[1:]]
             copy_proof(crate, room, function.path, judged(edit))
-        with open(path, "w", encoding="utf-8") as source:
-            source.write("\n".join(lines))
+        places.wrote("\n".join(lines), path)
 
 
 def write_stubs(edits, room):
@@ -160,8 +150,7 @@ def write_stubs(edits, room):
     own, stubs = {judged(it) for it in edits}, []
     for path in glob.glob(f"{room}/src/**/*.rt", recursive=True):
         file = os.path.relpath(path, room)
-        with open(path, encoding="utf-8") as source:
-            lines = source.read().split("\n")
+        lines = places.text_of(path).split("\n")
         # (from the last line up, so that the lines above keep their numbers)
         for start in range(len(lines) - 1, -1, -1):
             match = re.match(OPENS_FUNCTION, lines[start])
@@ -174,8 +163,7 @@ def write_stubs(edits, room):
         if file == "src/main.rt":
             # (a program is checked as a library, for which what it links isn't read, and which gives no name on)
             text = re.sub(r"(?m)^fn main\b", "fn program", re.sub(r"(?m)^pub use ", "use ", text))
-        with open(path, "w", encoding="utf-8") as source:
-            source.write(text)
+        places.wrote(text, path)
     return ["program" if it == "main" else it for it in stubs]
 
 
@@ -187,10 +175,7 @@ def copy_proof(crate, room, path, to):
     shutil.copytree(was, now)
     module, copied = [f"Rattle.{crate}.proofs.{it.replace('::', '.')}" for it in (path, to)]
     for file in glob.glob(f"{now}/*.antt"):
-        with open(file, encoding="utf-8") as proof:
-            text = proof.read()
-        with open(file, "w", encoding="utf-8") as proof:
-            proof.write(re.sub(rf"{re.escape(module)}\b", copied, text))
+        places.wrote(re.sub(rf"{re.escape(module)}\b", copied, places.text_of(file)), file)
 
 
 def leave_proofs_out(crate, edits, stubs, room):
@@ -198,10 +183,7 @@ def leave_proofs_out(crate, edits, stubs, room):
     proofs = os.path.join(room, "proofs")
     folder_of = lambda path: os.path.join(proofs, *path.split("::"))
     own, held = {folder_of(judged(it)) for it in edits}, {folder_of(it) for it in stubs}
-    texts = {}
-    for file in glob.glob(f"{proofs}/**/*.antt", recursive=True):
-        with open(file, encoding="utf-8") as proof:
-            texts[file] = proof.read()
+    texts = {file: places.text_of(file) for file in glob.glob(f"{proofs}/**/*.antt", recursive=True)}
     unfolded = {name for text in texts.values() for names in re.findall(r"(?m)^ *unfolding (.*)", text)
                 for name in names.split()}
     lib = os.path.join(proofs, "Lib.antt")
@@ -224,8 +206,7 @@ def leave_proofs_out(crate, edits, stubs, room):
                                                              name=path[-1])
     for file, text in written.items():
         os.makedirs(os.path.dirname(file), exist_ok=True)
-        with open(file, "w", encoding="utf-8") as proof:
-            proof.write(text)
+        places.wrote(text, file)
 
 
 def stated(text, unfolded):
@@ -314,16 +295,14 @@ def unproved_below(crate):
 
 
 def begin_log(crate):
-    """Empties the log of a crate's checks."""
     os.makedirs(places.path("out"), exist_ok=True)
     with open(log_of(crate), "w", encoding="utf-8"):
         pass
 
 
 def try_edits(crate, left):
-    """Gives for each edit, by its name, whether it is refused, and what to say of it; then what else is refused. It
-    takes as few checks as it takes for no two of one method of a trait to meet, and for each one of which only what it
-    calls is refused to be tried without that."""
+    """Gives for each edit, by its name, whether it is refused, and what to say of it; then what else is refused. As few
+    checks as keep two of one method of a trait apart, and one more for what is refused for its calls alone."""
     results, others, alone = {}, [], False
     begin_log(crate)
     while left:

@@ -32,14 +32,12 @@ class Edits:
 
 
 def case_of(name):
-    """Gives the case of an edit."""
     def test(self):
         self.refused(name)
     return test
 
 
 def class_of(crate, names):
-    """Gives the class of a crate, with a case for each of its edits."""
     cases = {f"test_{name}": case_of(name) for name in names}
     return needs.toolchain(type(crate, (Edits, Case),
                                 {"__module__": __name__, "crate": crate, "names": names, **cases}))

@@ -8,9 +8,10 @@
 //! A [`Symbol`] has the dark and light modules of a symbol of any size, a row as a number, or as two where it has more
 //! than 128. It is put row by row ([`SymbolIn::put_row()`]), and read so ([`SymbolIn::row()`] with [`SymbolIn::end()`])
 //! or module by module ([`SymbolIn::is_dark()`]). [`SymbolWords`] are the codewords of a symbol, given all at once
-//! ([`SymbolWordsIn::new()`]), or the data codewords first ([`SymbolWordsIn::put_data()`]) and the check codewords
-//! later ([`SymbolWordsIn::put_checks()`]). Both have room for the largest size; [`SymbolIn`] and [`SymbolWordsIn`]
-//! have as much as a caller wants, so that a small symbol needs no room for the largest.
+//! ([`SymbolWordsIn::new()`]) or put where they stand ([`SymbolWordsIn::resize()`]). Both have room for the largest
+//! size; [`SymbolIn`] and [`SymbolWordsIn`] have as much as a caller wants, so that a small symbol needs no room for
+//! the largest. What works on them takes a [`BorrowedSymbol`], a [`SymbolSize`] and a slice of codewords, so that it is
+//! the same for all rooms.
 //!
 //! [`lay_to()`] turns a symbol of the caller's, whatever it was, into the only one with correct borders and the fixed
 //! square that holds given codewords. [`lift()`] gives the codewords that a symbol holds, whatever stands in its
@@ -53,6 +54,7 @@ mod words;
 
 pub use blocks::{block, put_block, put_block_checks};
 pub use border::{border_colour, border_faults, symbol_column, symbol_row};
+pub use borrowed::BorrowedSymbol;
 pub use placing::{lay_to, lift, lift_to};
 pub use size::{
     LONGEST_BLOCK, MOST_BLOCKS, MOST_CODEWORDS, MOST_COLUMNS, MOST_DATA, MOST_MODULES, MOST_ROWS,

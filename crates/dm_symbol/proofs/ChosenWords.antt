@@ -7,7 +7,7 @@ use Rattle.dm_symbol.proofs.Names.{content_form, Form, Profiled, Smallest, IsSma
 use Rattle.dm_symbol.proofs.Names.{first_data, AreChosen, IsWrittenAs, FitChoice}
 use Rattle.dm_words.specs.declared.contents.head.Head.{Head}
 use Rattle.dm_words.specs.declared.contents.mark.Mark.{Mark}
-use Rattle.dm_words.specs.SmallestContents.{IsSmallestContentResult}
+use Rattle.dm_words.specs.Smallest.{IsSmallestContentResult}
 use Rattle.dm_symbol.proofs.SmallestContentSymbols.{laid_is_smallest_content, no_content_written}
 use Rattle.dm_symbol.proofs.SmallestContentSymbols.{smallest_content_written}
 use Rattle.dm_symbol.proofs.SymbolCompletions.{chosen_stands}

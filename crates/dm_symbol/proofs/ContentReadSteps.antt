@@ -3,8 +3,8 @@
 use Rattle.dm_symbol.proofs.Names.{◌≡◌, ◌↔◌, ℕ, ◌<◌, List, Option, Result, Ok, Err, refl, ap, subst, ◌∙◌, Extent}
 use Rattle.dm_symbol.proofs.Names.{ContentView, Says, IsRefused, SymbolView, WordsView, data_of, ContentReadFault}
 use Rattle.dm_symbol.proofs.Names.{BlockReading, Dealing, sure_fault_count, first_data, readings_by, ContentReadingView}
-use Rattle.dm_symbol.proofs.Names.{ContentReadResult, ReadsContent, content_reading_of, IsIdentifier, Border, Block}
-use Rattle.dm_symbol.proofs.Names.{IsRestored, IsLost}
+use Rattle.dm_symbol.proofs.Names.{ContentReadResult, ReadsContent, content_reading_of, IsIdentifier}
+use Rattle.dm_symbol.proofs.Names.{IsRestored}
 use Rattle.dm_symbol.specs.ContentReading.{IsContentRead}
 use Rattle.dm_words.specs.declared.contents.fault.ContentFault.{ContentFault}
 use Rattle.dm_symbol.specs.declared.contents.ContentReadFault.TheVariants as fault
@@ -17,14 +17,9 @@ module _ (extent : Extent) (modules : SymbolView) (doubtful : Option SymbolView)
   faults = sure_fault_count modules doubtful
 
   -- More sure faults than the limit are a right result.
-  pub content_border_result : (count : ℕ) → IsLost extent modules doubtful limit (Border count)
+  pub content_border_result : (count : ℕ) → (limit < faults) × (count ≡ faults)
       → ContentReadResult extent modules doubtful limit (Err (fault.Border count))
   content_border_result count lost = ContentReadResult.border lost.0 (ap (λ n. Err (fault.Border n)) lost.1)
-
-  -- Where a block can't be restored, the first such block is a right result.
-  pub content_lost_result : (b : ℕ) → IsLost extent modules doubtful limit (Block b)
-      → ContentReadResult extent modules doubtful limit (Err (fault.Block b))
-  content_lost_result b (few, held, lost) = ContentReadResult.block held b few lost refl
 
   module _ (w : WordsView) (dealing : Dealing) (blocks : List BlockReading) (count : ℕ)
       (r : IsRestored extent modules doubtful limit w dealing blocks count) where

@@ -125,11 +125,11 @@ erased_by_nothing Restarted size b =
 
 -- The marks that doubtful modules hold say what is erased by the standard's dealing, and turned, what is by the other.
 pub erased_by_standard : (size : SizeEntry) (doubtful : SymbolView) (marks : WordsView) (b : ℕ) → doubtful.size ≡ size
-    → Holds doubtful marks → marked_in size (Some marks) b ≡ erased_by Standard size (Some doubtful) b
+    → Holds doubtful marks → marked_in size (Some marks.list) b ≡ erased_by Standard size (Some doubtful) b
 erased_by_standard size doubtful marks b of_size h = sym (erased_by_held size doubtful marks b of_size h)
 
-pub erased_by_turned : (size : SizeEntry) (doubtful : SymbolView) (held marks : WordsView) (b : ℕ)
-    → IsDealtTwoWays size → doubtful.size ≡ size → Holds doubtful held → marks.list ≡ turned 1558 held.list
+pub erased_by_turned : (size : SizeEntry) (doubtful : SymbolView) (held : WordsView) (marks : List ℕ) (b : ℕ)
+    → IsDealtTwoWays size → doubtful.size ≡ size → Holds doubtful held → marks ≡ turned 1558 held.list
     → marked_in size (Some marks) b ≡ erased_by Restarted size (Some doubtful) b
 erased_by_turned size doubtful held marks b two of_size h turn =
     let places = places_of_block size.blocks b in
@@ -137,20 +137,20 @@ erased_by_turned size doubtful held marks b two of_size h turn =
     let words : AreOfSize size held.list = subst (λ s. AreOfSize s held.list) same_size h.codewords in
     let many : codeword_count size ≡ 2178 = ap codeword_count (size_is size words.size two) in
     let long : length held.list ≡ 2178 = words.count ∙ many in
-    let count : length marks.list ≡ codeword_count size = ap length turn ∙ length-turned 1558 held.list long
+    let count : length marks ≡ codeword_count size = ap length turn ∙ length-turned 1558 held.list long
     ∙ sym many in
-    let at_mark = λ (j : ℕ). get_or marks.list j 0 in
+    let at_mark = λ (j : ℕ). get_or marks j 0 in
     let same : (j : ℕ) → j < 2178
-    → is_mark (get_or marks.list j 0) ≡ is_erased size (Some doubtful) (restarted_place size j) = λ j hj.
+    → is_mark (get_or marks j 0) ≡ is_erased size (Some doubtful) (restarted_place size j) = λ j hj.
     let place : restarted_place size j ≡ place_of 1558 j =
     ap (λ s. restarted_place s j) (size_is size words.size two) ∙ same_place j in
     ap (λ xs. is_mark (get_or xs j 0)) turn ∙ ap is_mark (at_turned 1558 held.list j long hj)
     ∙ sym (erased_where_marked size doubtful held of_size h (place_of 1558 j)
     (omega (arith, inside_1558 j hj, many)))
     ∙ ap (is_erased size (Some doubtful)) (sym place) in
-    ap erased_places (map_twice is_mark at_mark (places (length marks.list))
-    ∙ ap (λ n. map (λ j. is_mark (get_or marks.list j 0)) (places n)) count
-    ∙ same_filtered (λ j. is_mark (get_or marks.list j 0))
+    ap erased_places (map_twice is_mark at_mark (places (length marks))
+    ∙ ap (λ n. map (λ j. is_mark (get_or marks j 0)) (places n)) count
+    ∙ same_filtered (λ j. is_mark (get_or marks j 0))
     (λ j. is_erased size (Some doubtful) (restarted_place size j))
     (λ j. nat_eq (j % size.blocks) b) 0 (codeword_count size)
     (λ j low high. same j (omega (arith, high, many))))

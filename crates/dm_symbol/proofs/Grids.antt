@@ -269,7 +269,7 @@ made_of_told modules limit reading one (ContentReadResult.block words index few 
 made_of_told modules limit reading one (ContentReadResult.words d words codewords why few h refused e) =
     cc
 made_of_told modules limit reading one (ContentReadResult.content Restarted words codewords l n few h said is e) =
-    absurd (one h.tried.1)
+    absurd (one (h.tried refl).1)
 made_of_told modules limit reading one (ContentReadResult.content Standard words codewords l n few h said is e) =
     let k = block_check modules.size in
     let faults = sure_fault_count modules None in

@@ -4,7 +4,7 @@ use Rattle.dm_symbol.proofs.Names.{get_or, map, Option, Some, None, refl, sym, a
 use Rattle.dm_symbol.proofs.Names.{place, Extent, Wide, SizeEntry, mapping_rows, mapping_columns, codeword_count}
 use Rattle.dm_symbol.proofs.Names.{SymbolView, is_fault, places_of_block, Dealing, Standard, Restarted}
 use Rattle.dm_symbol.proofs.Names.{SymbolInspectionIn, is_doubtful_bit, is_erased, erased_in, is_sure_fault}
-use Rattle.dm_symbol.proofs.Names.{sure_fault_count, dealt, erased_by, restarted_place, IsTried, AreRestored, AreLost}
+use Rattle.dm_symbol.proofs.Names.{sure_fault_count, dealt, erased_by, restarted_place, AreRestored, AreLost}
 use Rattle.dm_symbol.proofs.Names.{IsFirstLost, readings_by, IsSymbolInspection, AreLight}
 use Rattle.dm_layout.specs.symbols.Symbols.{rows_of}
 use Rattle.dm_symbol.specs.Doubt.{is_doubtful}
@@ -63,15 +63,10 @@ module _ (modules : SymbolView) (p q : Option SymbolView)
   first_moves u b h =
       lost_moves modules.size (erased_in modules.size p) (erased_in modules.size q) (same Standard) u b h
 
-  pub tried_moves : (d : Dealing) (extent : Extent) (u : List ℕ) → IsTried d extent modules p u
-      → IsTried d extent modules q u
-  tried_moves Standard extent u h = tt
-  tried_moves Restarted extent u h = (h.0, h.1, h.2, first_moves u h.2 h.3)
-
   pub restored_moves : (d : Dealing) (extent : Extent) (u c : List ℕ) → AreRestored extent modules p d u c
       → AreRestored extent modules q d u c
   restored_moves d extent u c h = record {
-    tried = tried_moves d extent u h.tried;
+    tried = λ e. ((h.tried e).0, (h.tried e).1, (h.tried e).2, first_moves u (h.tried e).2 (h.tried e).3);
     by = record {
       words_held = h.by.words_held;
       of_size = h.by.of_size;

@@ -16,7 +16,7 @@ pub use Rattle.dm_layout.specs.symbols.Holding.{Holds, IsLaid}
 pub use Rattle.dm_layout.specs.symbols.Sizes.{IsSize, SizeEntry, block_check, block_data, block_length, codeword_count}
 pub use Rattle.dm_layout.specs.symbols.Sizes.{entry_for, entry_of, mapping_columns, mapping_rows}
 pub use Rattle.dm_layout.specs.symbols.Symbols.{IsSymbol, SymbolView}
-pub use Rattle.dm_layout.specs.symbols.Words.{WordsView, data_of}
+pub use Rattle.dm_layout.specs.symbols.Words.{WordsView, data_of, first_words}
 pub use Rattle.dm_place.specs.Placement.{place}
 pub use Rattle.dm_symbol.specs.ContentNormal.{NormalContentResult}
 pub use Rattle.dm_symbol.specs.ContentReading.{ContentReadResult, ContentReadingView, ReadsContent, content_reading_of}
@@ -28,16 +28,17 @@ pub use Rattle.dm_symbol.specs.NormalOutcomes.{IsNormalGiven, IsNormalOrFault}
 pub use Rattle.dm_symbol.specs.Reading.{IsRead, ReadResult, Reads, reading_of}
 pub use Rattle.dm_symbol.specs.Restored.{IsRestored}
 pub use Rattle.dm_symbol.specs.SmallestContentSymbol.{IsSmallestContentWritten}
-pub use Rattle.dm_symbol.specs.SymbolBlocks.{AreBlocksNear, AreCodewordsOf, AreHeldBy, AreOfSize, HasNearBut, block_in}
+pub use Rattle.dm_symbol.specs.SymbolBlocks.{AreBlocksNear, AreCodewordsOf, AreOfSize, HasNearBut, block_in}
 pub use Rattle.dm_symbol.specs.SymbolBlocks.{first_data, words_with}
 pub use Rattle.dm_symbol.specs.SymbolInspection.{IsSymbolInspection}
 pub use Rattle.dm_symbol.specs.SymbolLaws.{AreLight, nothing_wrong}
 pub use Rattle.dm_symbol.specs.SymbolReading.{AreBlocksMended, AreLost, AreRestored, AreRestoredBy, IsBlockRestored}
-pub use Rattle.dm_symbol.specs.SymbolReading.{IsFirstLost, IsTried, block_reading, block_readings, readings_by}
+pub use Rattle.dm_symbol.specs.SymbolReading.{IsFirstLost, block_reading, block_readings, readings_by}
 pub use Rattle.dm_symbol.specs.WrittenContent.{AreChosen, IsWrittenAs}
 pub use Rattle.dm_symbol.specs.WrittenWords.{FitChoice}
 pub use Rattle.dm_symbol.specs.declared.contents.ContentNormalFault.{ContentNormalFault}
 pub use Rattle.dm_symbol.specs.declared.contents.ContentReadFault.{ContentReadFault}
+pub use Rattle.dm_symbol.specs.declared.contents.ContentReadFault.TheVariants.{Block, Border}
 pub use Rattle.dm_symbol.specs.declared.contents.writing.Form.{Form}
 pub use Rattle.dm_symbol.specs.declared.contents.writing.Form.TheVariants.{Profiled, Smallest}
 pub use Rattle.dm_symbol.specs.declared.reading.ReadFault.{ReadFault}
@@ -46,10 +47,9 @@ pub use Rattle.dm_symbol.specs.declared.symbol.dealing.Dealing.{Dealing}
 pub use Rattle.dm_symbol.specs.declared.symbol.dealing.Dealing.TheVariants.{Restarted, Standard}
 pub use Rattle.dm_symbol.specs.declared.symbol.inspection.SymbolInspectionIn.{SymbolInspectionIn}
 pub use Rattle.dm_symbol.specs.declared.symbol.reading.BlockReading.{BlockReading}
-pub use Rattle.dm_symbol.specs.declared.symbol.reading.Lost.TheVariants.{Block, Border}
 pub use Rattle.dm_symbol.specs.inner.Marks.{is_mark, marked_in}
-pub use Rattle.dm_symbol.specs.inner.Restoring.{IsLost, IsRestarted}
-pub use Rattle.dm_symbol.specs.inner.Showing.{IsRestartShown}
+pub use Rattle.dm_symbol.specs.inner.Restoring.{AreHeldBy, IsRestarted}
+pub use Rattle.dm_symbol.specs.inner.Showing.{IsMended}
 pub use Rattle.dm_symbol.specs.inner.Turns.{turned, turned_place}
 pub use Rattle.dm_words.proofs.Exported.{identifier_is_there, said_is_one, said_wide, usual_plain}
 pub use Rattle.dm_words.specs.ContentExtents.{IsSaidIn, as_content}

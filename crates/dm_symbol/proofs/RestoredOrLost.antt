@@ -2,8 +2,8 @@
 use Rattle.dm_symbol.proofs.Names.{codeword_bytes, length_of_block, words_with, ◌≡◌, ◌⊎◌, ℕ, zero, suc, ◌<◌, ◌≤◌, List}
 use Rattle.dm_symbol.proofs.Names.{Option, inl, inr, refl, sym, ap, subst, ◌∙◌, arith, cases_eq, Extent, Usual, Wide}
 use Rattle.dm_symbol.proofs.Names.{IsNearBut, SizeEntry, block_check, SymbolView, blocks_make_words, Dealing, Standard}
-use Rattle.dm_symbol.proofs.Names.{Restarted, erased_in, IsDealtTwoWays, dealt, erased_by, AreOfSize, AreHeldBy}
-use Rattle.dm_symbol.proofs.Names.{HasNearBut, block_in, AreRestoredBy, AreRestored, AreLost, IsFirstLost}
+use Rattle.dm_symbol.proofs.Names.{Restarted, erased_in, IsDealtTwoWays, dealt, erased_by, AreOfSize}
+use Rattle.dm_symbol.proofs.Names.{HasNearBut, block_in, AreRestoredBy, AreRestored, AreLost, IsFirstLost, Holds}
 use Rattle.dm_code.proofs.Exported.{near_but_or_none}
 use Rattle.dm_symbol.proofs.Choosing.{chosen}
 use Rattle.dm_symbol.proofs.SymbolBelow.{block_facts}
@@ -44,7 +44,7 @@ near_or_first_lost size erased words h (suc n) hn =
 
 -- Words whose blocks, dealt so, all have codewords near to them but for their erased places are restored.
 restored : (d : Dealing) (modules : SymbolView) (doubtful : Option SymbolView) (words : List ℕ)
-    → (d ≡ Restarted → IsDealtTwoWays modules.size) → AreHeldBy modules words
+    → (d ≡ Restarted → IsDealtTwoWays modules.size) → Holds modules (words_with modules.size words)
     → ((b : ℕ) → b < modules.size.blocks → HasNearBut (block_check modules.size)
     (block_in modules.size (dealt d modules.size words) b) (erased_by d modules.size doubtful b))
     → (codewords : List ℕ) × AreRestoredBy d modules doubtful words codewords
@@ -83,7 +83,7 @@ tried_or_not Wide size =
 
 -- Words that modules hold are restored by a dealing, or they are lost.
 pub restored_or_lost : (extent : Extent) (modules : SymbolView) (doubtful : Option SymbolView) (words : List ℕ)
-    → AreHeldBy modules words
+    → Holds modules (words_with modules.size words)
     → ((d : Dealing) × (c : List ℕ) × AreRestored extent modules doubtful d words c)
     ⊎ ((b : ℕ) × AreLost extent modules doubtful words b)
 restored_or_lost extent modules doubtful words h =
@@ -91,14 +91,14 @@ restored_or_lost extent modules doubtful words h =
     elim (near_or_first_lost size (erased_in size doubtful) words h.codewords size.blocks (omega arith)) [
       | inl near ↦
           let c = restored Standard modules doubtful words not_restarted h near in
-          inl (Standard, c.0, record { tried = tt; by = c.1 })
+          inl (Standard, c.0, record { tried = λ e. cc; by = c.1 })
       | inr first ↦ elim (tried_or_not extent size) [
         | inr not ↦ inr (
           first.0,
           record {
             words_held = h;
             first = first.1;
-            otherwise = λ c r. not r.tried.0 r.tried.1;
+            otherwise = λ c r. not (r.tried refl).0 (r.tried refl).1;
           },
         )
         | inl both ↦
@@ -107,7 +107,7 @@ restored_or_lost extent modules doubtful words h =
             (dealt_of_size Restarted size words two h.codewords) size.blocks (omega arith)) [
               | inl near ↦
                   let c = restored Restarted modules doubtful words two h near in
-                  inl (Restarted, c.0, record { tried = (both.0, both.1, first.0, first.1); by = c.1 })
+                  inl (Restarted, c.0, record { tried = λ e. (both.0, both.1, first.0, first.1); by = c.1 })
               | inr lost ↦ inr (
                 first.0,
                 record {

@@ -6,7 +6,7 @@ use Rattle.dm_symbol.proofs.Names.{AreCodewordsOf, first_data, block_readings, C
 use Rattle.dm_symbol.proofs.Names.{IsSmallestContentWritten}
 use Rattle.dm_symbol.specs.SmallestContentSymbol.{IsSmallestContentSymbol, NoneSays, IsContentReadWithNothingWrong}
 use Rattle.dm_symbol.specs.SmallestContentSymbol.{NoSmallerSays}
-use Rattle.dm_words.specs.SmallestContents.{IsSmallestContentFor, IsPlainestContent, SaysThenPads, NoSizeSays}
+use Rattle.dm_words.specs.Smallest.{IsSmallestContentFor, IsPlainestContent, SaysThenPads, NoSizeSays}
 use Rattle.dm_symbol.proofs.WrittenContents.{laid_restored, no_sure_fault, nothing_is_wrong}
 
 -- The data codewords that a symbol is read by are as many as its size has.

@@ -2,8 +2,12 @@
 use Rattle.dm_symbol.proofs.Names.{◌≡◌, ℕ, ◌+◌, ◌*◌, ◌<◌, ◌≤◌, List, [], length, get_or, refl, ap, ◌∙◌, arith}
 use Rattle.dm_symbol.proofs.Names.{ext_get_or, length-take, length-take-le, distance, distance_but, SizeEntry, IsSize}
 use Rattle.dm_symbol.proofs.Names.{codeword_count, block_data, block_check, block_length, SymbolView, WordsView}
-use Rattle.dm_symbol.proofs.Names.{data_of, size_facts, words_with, AreOfSize, AreHeldBy, block_in, length_of_block}
-use Rattle.dm_symbol.proofs.Names.{word_of_block}
+use Rattle.dm_symbol.proofs.Names.{data_of, size_facts, words_with, AreOfSize, block_in, length_of_block}
+use Rattle.dm_symbol.proofs.Names.{word_of_block, Holds}
+use Rattle.dm_symbol.proofs.Names.{◌-◌, ◌++◌, take, sym, replicate, first_words, take-append_seam}
+use Rattle.std.proofs.Common.{drop}
+use Rattle.std.proofs.lemmas.List.{append-nil, drop_all, length-drop, length-replicate}
+use borrow.Rule.Slice.PartMut.{put_mid}
 use Rattle.dm_code.specs.Erased.{blank}
 use Rattle.dm_layout.specs.symbols.Sizes.{count_in_block}
 use Rattle.dm_layout.specs.symbols.Words.{IsWords}
@@ -74,9 +78,26 @@ only_short size words h one =
     let whole = only_length size 0 one hb in
     (omega (arith, f.short, whole, h.count), omega (arith, f.some_data, whole, h.count))
 
--- Equal sizes have the same number of blocks.
-pub blocks_are : (s t : SizeEntry) → s ≡ t → s.blocks ≡ t.blocks
-blocks_are s t e = ap (λ r. r.blocks) e
+-- As many words as a size has, with others behind them, are its codewords.
+pub front_words : (size : SizeEntry) (words rest : List ℕ) → length words ≡ codeword_count size
+    → first_words size (words ++ rest) ≡ words_with size words
+front_words size words rest count =
+    ap (words_with size) (ap (λ n. take n (words ++ rest)) (sym count) ∙ take-append_seam words rest)
+
+-- Room for as many marks has as many.
+pub room_for : (room count : ℕ) → count ≤ room → length (take count (replicate {A = ℕ} room 0)) ≡ count
+room_for room count few =
+    length-take-le count (replicate {A = ℕ} room 0) (omega (arith, few, length-replicate {A = ℕ} room 0))
+
+-- No symbol has more codewords than these.
+pub few_words : (size : SizeEntry) (words : List ℕ) → AreOfSize size words → length words ≤ 2178
+few_words size words h = omega (arith, h.count, (size_facts size h.size).codewords)
+
+-- What is put at the end of a list stands behind what stays.
+pub put_last : (n : ℕ) (xs part : List ℕ) → put_mid n (length xs - n) xs part ≡ take n xs ++ part
+put_last n xs part =
+    ap (λ r. take n xs ++ (part ++ r)) (drop_all (length xs - n) (drop n xs) (omega (arith, length-drop n xs)))
+    ∙ ap (λ r. take n xs ++ r) (append-nil part)
 
 -- ---- near with no place erased
 
@@ -88,6 +109,7 @@ distance_plain word other = refl
 -- ---- codewords and modules
 
 -- Modules hold only one list of codewords.
-pub held_is_one : (modules : SymbolView) (u v : List ℕ) → AreHeldBy modules u → AreHeldBy modules v → u ≡ v
+pub held_is_one : (modules : SymbolView) (u v : List ℕ) → Holds modules (words_with modules.size u)
+    → Holds modules (words_with modules.size v) → u ≡ v
 held_is_one modules u v hu hv =
     ap (λ (w : WordsView). w.list) (one_held modules (words_with modules.size u) (words_with modules.size v) hu hv)

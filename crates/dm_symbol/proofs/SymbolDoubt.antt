@@ -91,8 +91,7 @@ module _ (size : SizeEntry) (rows : List (List Bool)) (marks : List ℕ)
       ∙ byte_has_bit (get_or marks j 0) (h.codewords.bytes j 0 (omega (arith, hj, h.codewords.count)))
 
   -- The erased places of a block are those with a mark.
-  erased_by_marks : (b : ℕ)
-      → erased_in size (Some doubt) b ≡ marked_in size (Some (record { size = size; list = marks })) b
+  erased_by_marks : (b : ℕ) → erased_in size (Some doubt) b ≡ marked_in size (Some marks) b
   erased_by_marks b =
       let places = places_of_block size.blocks b in
       let at_mark = λ (j : ℕ). get_or marks j 0 in
@@ -114,13 +113,11 @@ held_of_size size doubtful marks of_size h =
 -- Doubtful modules of the size of a symbol hold the marks.
 pub erased_by_held : (size : SizeEntry) (doubtful : SymbolView) (marks : WordsView) (b : ℕ) → doubtful.size ≡ size
     → Holds doubtful marks
-    → erased_in size (Some doubtful) b ≡ marked_in size (Some marks) b
+    → erased_in size (Some doubtful) b ≡ marked_in size (Some marks.list) b
 erased_by_held size doubtful marks b of_size h =
-    let to_size : marks.size ≡ size = h.same_size ∙ of_size in
     let here = held_of_size size doubtful marks of_size h in
     ap (λ s. erased_in size (Some (record { size = s; rows = doubtful.rows })) b) of_size
     ∙ erased_by_marks size doubtful.rows marks.list here b
-    ∙ ap (λ s. marked_in size (Some (record { size = s; list = marks.list })) b) (sym to_size)
 
 -- A codeword is erased where the mark that these modules hold for it isn't 0.
 pub erased_where_marked : (size : SizeEntry) (doubtful : SymbolView) (marks : WordsView) → doubtful.size ≡ size

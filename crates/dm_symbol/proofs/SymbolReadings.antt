@@ -2,14 +2,14 @@
 use Rattle.dm_symbol.proofs.Names.{length_of_block, word_of_block, ◌≡◌, ℕ, ◌+◌, ◌*◌, ◌<◌, List, Option, inl, inr, refl}
 use Rattle.dm_symbol.proofs.Names.{sym, subst, arith, All, All-from_get_or, All-get_or, All-take, Extent, Wide}
 use Rattle.dm_symbol.proofs.Names.{SizeEntry, block_check, block_length, SymbolView, Dealing, Standard, Restarted}
-use Rattle.dm_symbol.proofs.Names.{erased_in, IsDealtTwoWays, dealt, erased_by, words_with, AreOfSize, AreHeldBy}
-use Rattle.dm_symbol.proofs.Names.{AreBlocksNear, block_in, first_data, AreRestoredBy, IsTried, AreRestored, AreLost}
-use Rattle.dm_symbol.proofs.Names.{IsFirstLost}
+use Rattle.dm_symbol.proofs.Names.{erased_in, IsDealtTwoWays, dealt, erased_by, words_with, AreOfSize}
+use Rattle.dm_symbol.proofs.Names.{AreBlocksNear, block_in, first_data, AreRestoredBy, AreRestored, AreLost}
+use Rattle.dm_symbol.proofs.Names.{IsFirstLost, Holds}
 use Rattle.dm_layout.proofs.symbols.Exported.{place_inside, same_by_blocks}
 use Rattle.dm_code.proofs.Exported.{near_but_one}
 use Rattle.std.proofs.lemmas.Bool.{cases_order}
 use Rattle.dm_symbol.proofs.SymbolBelow.{block_facts, held_is_one}
-use Rattle.dm_symbol.proofs.Dealings.{dealt_of_size, not_restarted, same_dealt}
+use Rattle.dm_symbol.proofs.Dealings.{dealt_of_size, same_dealt}
 
 -- The codewords of a block are bytes.
 pub bytes_in_block : (size : SizeEntry) (words : List ℕ) → AreOfSize size words → (b : ℕ) → b < size.blocks
@@ -49,12 +49,6 @@ module _ (modules : SymbolView) (doubtful : Option SymbolView) where
   abbrev size : SizeEntry
   size = modules.size
 
-  -- What is restored by a dealing by which the size is dealt.
-  two_ways : (d : Dealing) (extent : Extent) (u : List ℕ) → IsTried d extent modules doubtful u → d ≡ Restarted
-      → IsDealtTwoWays size
-  two_ways Standard extent u tried e = not_restarted e
-  two_ways Restarted extent u tried e = tried.1
-
   -- A symbol holds only one list of words, and only one list of codewords is near to them by a dealing.
   near_by_is_one : (d : Dealing) (u c v f : List ℕ) → (d ≡ Restarted → IsDealtTwoWays size)
       → AreRestoredBy d modules doubtful u c → AreRestoredBy d modules doubtful v f → (u ≡ v) × (c ≡ f)
@@ -79,9 +73,9 @@ module _ (modules : SymbolView) (doubtful : Option SymbolView) where
       → AreRestored extent modules doubtful Restarted v f → ⊥
   not_otherwise extent u c v f hu hv =
       let same : v ≡ u = held_is_one modules v u hv.by.words_held hu.words_held in
-      let first : IsFirstLost size erased u hv.tried.2 =
-      subst (λ w. IsFirstLost size erased w hv.tried.2) same hv.tried.3 in
-      first.lost (block_in size c hv.tried.2, hu.near hv.tried.2 first.in_symbol)
+      let tried = hv.tried refl in
+      let first : IsFirstLost size erased u tried.2 = subst (λ w. IsFirstLost size erased w tried.2) same tried.3 in
+      first.lost (block_in size c tried.2, hu.near tried.2 first.in_symbol)
 
   -- A symbol is restored by one dealing.
   dealing_is_one : (x y : Extent) (d e : Dealing) (u c v f : List ℕ) → AreRestored x modules doubtful d u c
@@ -96,22 +90,24 @@ module _ (modules : SymbolView) (doubtful : Option SymbolView) where
       → AreRestored y modules doubtful e v f → (u ≡ v) × (c ≡ f) × (d ≡ e)
   restored_is_one x y d e u c v f hu hv =
       let same : e ≡ d = sym (dealing_is_one x y d e u c v f hu hv) in
-      let near = near_by_is_one d u c v f (two_ways d x u hu.tried) hu.by
+      let near = near_by_is_one d u c v f (λ f. (hu.tried f).1) hu.by
       (subst (λ z. AreRestoredBy z modules doubtful v f) same hv.by) in
       (near.0, near.1, sym same)
 
   -- What is restored in some extent is restored in `Wide`.
   pub restored_wide : (extent : Extent) (d : Dealing) (u c : List ℕ) → AreRestored extent modules doubtful d u c
       → AreRestored Wide modules doubtful d u c
-  restored_wide extent Standard u c h = record { tried = tt; by = h.by }
-  restored_wide extent Restarted u c h = record { tried = (refl, h.tried.1, h.tried.2, h.tried.3); by = h.by }
+  restored_wide extent d u c h = record {
+    tried = λ e. (refl, (h.tried e).1, (h.tried e).2, (h.tried e).3);
+    by = h.by;
+  }
 
   -- Words that are restored aren't lost.
   pub none_lost : (extent : Extent) (d : Dealing) (v u c : List ℕ) (b : ℕ) → AreLost extent modules doubtful v b
       → AreRestored extent modules doubtful d u c → ⊥
   none_lost extent d v u c b lost h = by d h
     where
-      same : AreHeldBy modules u → u ≡ v
+      same : Holds modules (words_with size u) → u ≡ v
       same hu = held_is_one modules u v hu lost.words_held
 
       by : (d : Dealing) → AreRestored extent modules doubtful d u c → ⊥

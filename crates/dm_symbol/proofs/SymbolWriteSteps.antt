@@ -1,6 +1,7 @@
 -- Check codewords follow from the data codewords, and the sizes that are chosen for so many of these hold them.
 use Rattle.dm_symbol.proofs.Names.{length_of_block, ◌≡◌, ◌≢◌, ℕ, ◌+◌, ◌<◌, ◌≤◌, List, ◌++◌, length, get_or, take, Some}
-use Rattle.dm_symbol.proofs.Names.{inl, inr, refl, sym, ap, subst, ◌∙◌, arith, cases_eq, get_or-take, length-take-le}
+use Rattle.dm_symbol.proofs.Names.{inl, inr, refl, sym, ap, subst, ◌∙◌, arith, below_more, cases_eq, get_or-take}
+use Rattle.dm_symbol.proofs.Names.{length-take-le}
 use Rattle.dm_symbol.proofs.Names.{take-append_seam, IsCodeword, distance, SizeChoice, SizeEntry, entry_for, block_data}
 use Rattle.dm_symbol.proofs.Names.{block_check, block_of, same_data_by_blocks, words_with, AreOfSize, AreCodewordsOf}
 use Rattle.dm_symbol.proofs.Names.{block_in, first_data}
@@ -34,23 +35,15 @@ checks_keep_data size u v checks b hu hv hb put others =
     ])
 
 -- One more block is a codeword.
-pub one_more_checked : (size s : SizeEntry) (u v : List ℕ) (b : ℕ) → s ≡ size → b < size.blocks
+pub one_more_checked : (size : SizeEntry) (u v : List ℕ) (b : ℕ) → b < size.blocks
     → ((a : ℕ) → a < b → IsCodeword (block_check size) (block_in size u a))
-    → IsCodeword (block_check s) (block_in s v b)
-    → ((a : ℕ) → a < s.blocks → a ≢ b → block_in s v a ≡ block_in s u a)
+    → IsCodeword (block_check size) (block_in size v b)
+    → ((a : ℕ) → a < size.blocks → a ≢ b → block_in size v a ≡ block_in size u a)
     → (a : ℕ) → a < b + 1 → IsCodeword (block_check size) (block_in size v a)
-one_more_checked size s u v b e hb before here others a ha =
-    let last : IsCodeword (block_check size) (block_in size v b) =
-    subst (λ z. IsCodeword (block_check z) (block_in z v b)) e here in
-    let stay : (a : ℕ) → a < size.blocks → a ≢ b → block_in size v a ≡ block_in size u a =
-    subst (λ z. (a : ℕ) → a < z.blocks → a ≢ b → block_in z v a ≡ block_in z u a) e others in
-    elim (cases_eq a b) [
-      | inl same ↦ subst (λ x. IsCodeword (block_check size) (block_in size v x)) (sym same) last
-      | inr other ↦
-          let below : a < b = omega (arith, ha, other) in
-          subst (λ xs. IsCodeword (block_check size) xs) (sym (stay a (omega (arith, below, hb)) other))
-          (before a below)
-    ]
+one_more_checked size u v b hb before here others =
+    below_more (λ a. IsCodeword (block_check size) (block_in size v a)) b
+    (λ a l. subst (IsCodeword (block_check size)) (sym (others a (omega (arith, l, hb)) (omega arith))) (before a l))
+    here
 
 -- Codewords of a symbol with equal data codewords are equal: the check codewords follow from the data.
 pub checks_follow : (size : SizeEntry) (u v : List ℕ) → AreOfSize size u → AreOfSize size v → AreCodewordsOf size u

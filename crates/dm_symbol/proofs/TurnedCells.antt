@@ -4,10 +4,11 @@ use Rattle.dm_symbol.proofs.Names.{false, not, ◌&&◌, eqb, List, get_or, None
 use Rattle.dm_symbol.proofs.Names.{arith, cases_eq, false≢true, Extent, Usual, Item, Profile, IsNear, distance}
 use Rattle.dm_symbol.proofs.Names.{IsNearBut, Square, SizeRow, IsRow, GridView, IsGrid, symbol_modules, block_check}
 use Rattle.dm_symbol.proofs.Names.{SymbolView, border_fault_count, row_facts, same_row, as_content, IsMessage, Standard}
-use Rattle.dm_symbol.proofs.Names.{sure_fault_count, AreHeldBy, AreOfSize, block_in, AreRestored, IsNormalGrid, Reads}
+use Rattle.dm_symbol.proofs.Names.{sure_fault_count, AreOfSize, block_in, AreRestored, IsNormalGrid, Reads, words_with}
 use Rattle.std.proofs.lemmas.Bool.Decides.{nat_tests}
 use Rattle.std.proofs.lemmas.Bool.{true≢false}
 use Rattle.dm_code.specs.Codeword.{differing}
+use Rattle.dm_layout.specs.symbols.Holding.{Holds as HoldsModules}
 use Rattle.dm_layout.specs.Sizes.{codeword_count, block_length}
 use Rattle.dm_layout.specs.Grid.{cell_at}
 use Rattle.dm_layout.specs.Border.{is_fault, is_border, border_is_dark, symbol_line}
@@ -210,13 +211,13 @@ border_changes size rows others none =
     (none_pass size.side (is_fault g) r c none hr hc) wrong)
 
 -- Words that are near to codewords of a symbol, block by block, are restored to these where no module is doubtful.
-restored_plainly : (extent : Extent) (modules : SymbolView) (u c : List ℕ) → AreHeldBy modules u → AreOfSize
-    modules.size c
+restored_plainly : (extent : Extent) (modules : SymbolView) (u c : List ℕ)
+    → HoldsModules modules (words_with modules.size u) → AreOfSize modules.size c
     → ((b : ℕ) → b < modules.size.blocks
     → IsNear (block_check modules.size) (block_in modules.size u b) (block_in modules.size c b))
     → AreRestored extent modules None Standard u c
 restored_plainly extent modules u c held of_size near = record {
-  tried = tt;
+  tried = λ e. cc;
   by = record {
     words_held = held;
     of_size = of_size;

@@ -33,7 +33,7 @@ module _ (g : SymbolView) (words : List ℕ) (laid : IsLaid (words_with g.size w
 
   pub laid_restored : (extent : Extent) → AreRestored extent g None Standard words words
   laid_restored extent = record {
-    tried = tt;
+    tried = λ e. cc;
     by = record {
       words_held = laid.holds;
       of_size = laid.holds.codewords;

@@ -4,8 +4,8 @@ use Rattle.dm_words.specs.declared.extent.Extent.{Extent}
 use Rattle.dm_words.specs.declared.fault.TooLong.{TooLong}
 use Rattle.dm_words.specs.Contents.{ContentView}
 use Rattle.dm_words.specs.Plain.{FramesNoFnc1}
-use Rattle.dm_words.specs.Smallest.{IsTaken, IsSmaller}
-use Rattle.dm_words.specs.SmallestContents.{IsSmallestContentFor, IsPlainestContent, SaysThenPads, NoSizeSays}
+use Rattle.dm_words.specs.Smallest.{IsTaken, IsSmaller, IsSmallestContentFor, IsPlainestContent, SaysThenPads}
+use Rattle.dm_words.specs.Smallest.{NoSizeSays}
 use Rattle.dm_layout.specs.declared.symbols.size.SizeChoice.{SizeChoice}
 use Rattle.dm_layout.specs.symbols.Sizes.{block_check}
 use Rattle.dm_layout.specs.symbols.Symbols.{SymbolView}

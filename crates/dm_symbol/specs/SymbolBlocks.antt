@@ -4,22 +4,8 @@ use Rattle.std.specs.Prelude.{ℕ, ◌<◌, List, take}
 use Rattle.dm_code.specs.Codeword.{IsCodeword}
 use Rattle.dm_code.specs.Erased.{IsNearBut}
 use Rattle.dm_layout.specs.symbols.Sizes.{SizeEntry, block_check}
-use Rattle.dm_layout.specs.symbols.Words.{WordsView, IsWords}
+pub use Rattle.dm_layout.specs.symbols.Words.{AreOfSize, words_with}
 use Rattle.dm_layout.specs.symbols.Blocks.{block_of}
-use Rattle.dm_layout.specs.symbols.Symbols.{SymbolView}
-use Rattle.dm_layout.specs.symbols.Holding.{Holds}
-
--- These are the codewords of a symbol of this size.
-abbrev pub words_with : SizeEntry → List ℕ → WordsView
-words_with size words = record { size = size; list = words }
-
--- The size is one of the table, and there are as many words as a symbol of this size has codewords, each of 0 to 255.
-abbrev pub AreOfSize : SizeEntry → List ℕ → Type 0
-AreOfSize size words = IsWords (words_with size words)
-
--- The modules, whose size is one of the table, hold these words, which are all codewords of a symbol of that size.
-abbrev pub AreHeldBy : SymbolView → List ℕ → Type 0
-AreHeldBy modules words = Holds modules (words_with modules.size words)
 
 -- Among the codewords of a symbol of this size, the data codewords come first.
 abbrev pub first_data : SizeEntry → List ℕ → List ℕ

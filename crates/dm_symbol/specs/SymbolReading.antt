@@ -1,19 +1,19 @@
 -- To which codewords the words of a symbol of any size are restored, with doubtful modules or none, what is said of its
 -- blocks, and how a symbol is lost (ISO/IEC 16022 and ISO/IEC 21471, decode algorithm).
 use Rattle.std.specs.Prelude.{◌≡◌, ℕ, ◌+◌, ◌-◌, ◌*◌, ◌<◌, List, length, get_or, map, Option, Some, None}
-use Rattle.std.specs.Prelude.{⊤}
 use Rattle.std.specs.List.{range_with_len}
 use Rattle.dm_words.specs.declared.extent.Extent.{Extent}
 use Rattle.dm_words.specs.declared.extent.Extent.TheVariants.{Wide}
 use Rattle.dm_code.specs.Erased.{IsNearBut, distance_but}
 use Rattle.dm_layout.specs.symbols.Sizes.{SizeEntry, block_check}
+use Rattle.dm_layout.specs.symbols.Holding.{Holds}
 use Rattle.dm_layout.specs.symbols.Symbols.{SymbolView}
 use Rattle.dm_symbol.specs.declared.symbol.dealing.Dealing.{Dealing}
-use Rattle.dm_symbol.specs.declared.symbol.dealing.Dealing.TheVariants.{Standard, Restarted}
+use Rattle.dm_symbol.specs.declared.symbol.dealing.Dealing.TheVariants.{Restarted}
 use Rattle.dm_symbol.specs.declared.symbol.reading.BlockReading.{BlockReading}
 use Rattle.dm_symbol.specs.Doubt.{erased_in}
 use Rattle.dm_symbol.specs.Dealings.{IsDealtTwoWays, dealt, erased_by}
-use Rattle.dm_symbol.specs.SymbolBlocks.{AreOfSize, AreHeldBy, AreBlocksNear, HasNearBut, block_in}
+use Rattle.dm_symbol.specs.SymbolBlocks.{AreOfSize, AreBlocksNear, HasNearBut, block_in, words_with}
 
 -- This block is the first to which no codeword is near but for its erased places.
 pub record IsFirstLost (size : SizeEntry) (erased : ℕ → List ℕ) (words : List ℕ) (block : ℕ) : Type 0 where
@@ -26,32 +26,25 @@ pub record IsFirstLost (size : SizeEntry) (erased : ℕ → List ℕ) (words : L
 -- same block of them but for what is doubtful, both dealt so.
 pub record AreRestoredBy (dealing : Dealing) (modules : SymbolView) (doubtful : Option SymbolView)
     (words codewords : List ℕ) : Type 0 where
-  pub words_held : AreHeldBy modules words
+  pub words_held : Holds modules (words_with modules.size words)
   pub of_size : AreOfSize modules.size codewords
   pub near : AreBlocksNear modules.size (erased_by dealing modules.size doubtful) (dealt dealing modules.size words)
       (dealt dealing modules.size codewords)
 
--- In an extent the blocks of a symbol are looked for by the standard's dealing; in `Wide`, of 144 x 144, by the other
--- one where a block is lost by the standard's.
-abbrev pub IsTried : Dealing → Extent → SymbolView → Option SymbolView → List ℕ → Type 0
-IsTried Standard extent modules doubtful words = ⊤
-IsTried Restarted extent modules doubtful words =
-    (extent ≡ Wide) × IsDealtTwoWays modules.size
-    × (block : ℕ) × IsFirstLost modules.size (erased_in modules.size doubtful) words block
-
 -- The words, which the modules hold, are restored to the codewords in an extent: near to them by the standard's
--- dealing, or lost by it and near to them by the other. That other dealing is one of the field's; that it comes second,
--- and only in this extent, are rules of this project.
+-- dealing; or by the other, which is tried in `Wide`, of 144 x 144, where a block is lost by the standard's. That other
+-- dealing is one of the field's; that it comes second, and only in this extent, are rules of this project.
 pub record AreRestored (extent : Extent) (modules : SymbolView) (doubtful : Option SymbolView) (dealing : Dealing)
     (words codewords : List ℕ) : Type 0 where
-  pub tried : IsTried dealing extent modules doubtful words
+  pub tried : dealing ≡ Restarted → (extent ≡ Wide) × IsDealtTwoWays modules.size
+      × (block : ℕ) × IsFirstLost modules.size (erased_in modules.size doubtful) words block
   pub by : AreRestoredBy dealing modules doubtful words codewords
 
 -- The modules hold the words, and these aren't restored: this block, by the standard's dealing, is the first to which
 -- no codeword is near, and the other dealing, where it is tried, doesn't restore them.
 pub record AreLost (extent : Extent) (modules : SymbolView) (doubtful : Option SymbolView) (words : List ℕ)
     (block : ℕ) : Type 0 where
-  pub words_held : AreHeldBy modules words
+  pub words_held : Holds modules (words_with modules.size words)
   pub first : IsFirstLost modules.size (erased_in modules.size doubtful) words block
   pub otherwise : (codewords : List ℕ) → AreRestored extent modules doubtful Restarted words codewords → ⊥
 

@@ -7,7 +7,7 @@ use Rattle.dm_words.specs.declared.fault.TooLong.{TooLong}
 use Rattle.dm_words.specs.Contents.{ContentView}
 use Rattle.dm_words.specs.ContentForm.{content_form}
 use Rattle.dm_words.specs.Pads.{padded}
-use Rattle.dm_words.specs.SmallestContents.{IsSmallestContentResult}
+use Rattle.dm_words.specs.Smallest.{IsSmallestContentResult}
 use Rattle.dm_symbol.specs.declared.contents.writing.Form.{Form}
 use Rattle.dm_symbol.specs.declared.contents.writing.Form.TheVariants.{Profiled, Smallest}
 use Rattle.dm_symbol.specs.NormalContent.{IsContentWritten}

@@ -20,7 +20,7 @@
 //! grid says, a [`Reading`]; [`write()`] the normal grid of a [`Message`]; and [`normal()`] the normal grid of what a
 //! grid says. These know no profile but [`Profile::Ascii`]; [`write_as()`] and [`normal_as()`] take any, and
 //! [`read_to()`], [`write_to()`] and [`normal_to()`] leave their results in targets, a default [`Reading`] and a
-//! [`light_grid()`]. [`usual_limit()`] is the number of wrong border modules that is usually accepted.
+//! default [`Grid`]. [`usual_limit()`] is the number of wrong border modules that is usually accepted.
 //!
 //! The types of the layers below are given on, among them [`GridFault`], [`Size`] with its [`table()`] of
 //! [`GRID_SIZE_COUNT`], [`Words`], [`Item`], [`WordFault`], and the limits [`LARGEST_SIDE`], [`MOST_GRID_BLOCKS`],
@@ -44,7 +44,7 @@ mod symbol;
 mod writing;
 
 pub use contents::normalising::normal_content_to;
-pub use contents::reading::{read_content_to, restore_symbol_to};
+pub use contents::reading::read_content_to;
 pub use contents::writing::{Form, WriteOptions, choose_words_to, lay_words_to, write_content_to};
 pub use contents::{ContentNormalFault, ContentReadFault, ContentReading, ContentReadingIn};
 pub use dm_layout::symbols::{
@@ -61,6 +61,6 @@ pub use limit::usual_limit;
 pub use normalising::{NormalFault, normal, normal_as, normal_to};
 pub use reading::{ReadFault, Reading, read, read_to};
 pub use symbol::dealing::Dealing;
-pub use symbol::inspection::{SymbolInspection, SymbolInspectionIn, has_lost, inspect_symbol_to};
-pub use symbol::reading::{BlockReading, ReadOptions};
-pub use writing::{light_grid, write, write_as, write_to};
+pub use symbol::inspection::{SymbolInspection, SymbolInspectionIn, inspect_symbol_to};
+pub use symbol::reading::{BlockReading, ReadOptions, restore_symbol_to};
+pub use writing::{write, write_as, write_to};

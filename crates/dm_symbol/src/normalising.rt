@@ -3,7 +3,7 @@
 ghost use Rattle.dm_symbol.specs.Normal.{IsNormalised, IsNormalisedTo};
 
 use crate::reading::{ReadFault, Reading, read_to};
-use crate::writing::{light_grid, write_to};
+use crate::writing::write_to;
 use dm_layout::Grid;
 use dm_words::{Profile, TooLong};
 
@@ -30,7 +30,7 @@ pub fn normal_as(profile: Profile, grid: &Grid, border_limit: u16) -> Result<Gri
     ensures { IsNormalised profile grid.now border_limit result }
 {
     let mut reading = Reading::default();
-    let mut normal = light_grid();
+    let mut normal = Grid::default();
     match normal_to(profile, grid, border_limit, &mut reading, &mut normal) {
         Ok(()) => Ok(normal),
         Err(fault) => Err(fault),

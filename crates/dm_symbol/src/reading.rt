@@ -5,15 +5,12 @@ ghost use Rattle.dm_layout.specs.Sizes.{codeword_count};
 ghost use Rattle.dm_words.specs.Outcomes.{outcome};
 ghost use Rattle.dm_symbol.specs.Reading.{IsRead};
 
+use crate::contents::ContentReadFault;
 use crate::symbol::dealing::Dealing;
-use crate::symbol::reading::{BlockReading, Lost, ReadOptions, restore_to};
+use crate::symbol::reading::{BlockReading, FEW_CODEWORDS, restore};
 use arrayvec::ArrayVec;
-use dm_layout::symbols::SymbolWordsIn;
 use dm_layout::{Grid, MOST_GRID_BLOCKS, MOST_GRID_CODEWORDS};
 use dm_words::{Extent, Message, WordFault, message_to};
-
-/// How many codewords the room has that serves for small squares, up to 32 x 32.
-const FEW_CODEWORDS: usize = 98;
 
 /// What a grid says, and how much of it was wrong. The default is the reading of an empty message, with nothing
 /// corrected, into which [`read_to`] can read.
@@ -67,46 +64,47 @@ pub fn read_to(grid: &Grid, border_limit: u16, reading: &mut Reading) -> Result<
     let count = usize::from(size.data_count() + size.check_count());
     // To clear room for the largest square takes longer than much of the reading of a small one.
     if count <= FEW_CODEWORDS {
-        read_by::<FEW_CODEWORDS>(grid, border_limit, reading)
+        let mut room = [0; FEW_CODEWORDS];
+        read_in(grid, border_limit, &mut room, reading)
     } else {
-        read_by::<MOST_GRID_CODEWORDS>(grid, border_limit, reading)
+        let mut room = [0; MOST_GRID_CODEWORDS];
+        read_in(grid, border_limit, &mut room, reading)
     }
 }
 
-/// Does the same with room for so many codewords.
-fn read_by<const WORDS: usize>(
+/// Does the same with room for the codewords, of any size.
+fn read_in(
     grid: &Grid,
     border_limit: u16,
+    room: &mut [u8],
     reading: &mut Reading,
 ) -> Result<(), ReadFault>
-    requires room { codeword_count grid.now.size ≤ WORDS }
-    requires most { WORDS ≤ MOST_GRID_CODEWORDS }
+    requires { codeword_count grid.now.size ≤ length room.old }
     ensures read { IsRead grid.now border_limit (outcome result reading.new) }
     ensures same { (count : ℕ) → result ≡ Err (ReadFault.Border count)
         → reading.new ≡ reading.old }
 {
-    let mut words = SymbolWordsIn::<WORDS>::zeros(grid.size().symbol());
+    let size = grid.size();
     let mut blocks = ArrayVec::new();
     // By no other is a square of up to 104 rows read.
     let mut dealing = Dealing::Standard;
-    let how = ReadOptions {
-        extent: Extent::Usual,
+    match restore(
+        &grid.as_symbol().borrowed(),
+        None,
+        Extent::Usual,
         border_limit,
-        doubtful: None,
-    };
-    match restore_to(
-        grid.as_symbol(),
-        how,
-        &mut words,
+        room,
         &mut dealing,
         &mut blocks,
         &mut reading.border_faults,
     ) {
         Ok(()) => {}
-        Err(Lost::Border(count)) => return Err(ReadFault::Border(count)),
-        Err(Lost::Block(index)) => return Err(ReadFault::Block(index)),
+        Err(ContentReadFault::Border(count)) => return Err(ReadFault::Border(count)),
+        Err(ContentReadFault::Block(index)) => return Err(ReadFault::Block(index)),
+        Err(ContentReadFault::Words(_)) => unreachable!(),
     }
-    match message_to(words.data_part(), &mut reading.message) {
+    let list = &room[..usize::from(size.data_count())];
+    match message_to(list, &mut reading.message) {
         Ok(()) => {}
         Err(fault) => return Err(ReadFault::Words(fault)),
     }

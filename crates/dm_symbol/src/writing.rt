@@ -1,8 +1,6 @@
 //! Writing: the normal grid of a message.
 
-ghost use Rattle.std.specs.Prelude.{◌≡◌, Some, replicate, OnErr};
-ghost use Rattle.dm_layout.specs.Sizes.{row_with_side};
-ghost use Rattle.dm_layout.specs.Grid.{square_of_rows};
+ghost use Rattle.std.specs.Prelude.{◌≡◌, OnErr};
 ghost use Rattle.dm_words.specs.Outcomes.{outcome};
 ghost use Rattle.dm_symbol.specs.NormalGrid.{IsWritten};
 
@@ -26,7 +24,7 @@ pub fn write(message: &Message) -> Result<Grid, TooLong>
 pub fn write_as(profile: Profile, message: &Message) -> Result<Grid, TooLong>
     ensures { IsWritten profile message.now result }
 {
-    let mut grid = light_grid();
+    let mut grid = Grid::default();
     match write_to(profile, message, &mut grid) {
         Ok(()) => Ok(grid),
         Err(TooLong) => Err(TooLong),
@@ -53,16 +51,4 @@ pub fn write_to(profile: Profile, message: &Message, grid: &mut Grid) -> Result<
     complete_with(&mut words, size.symbol(), &list);
     lay_symbol_to(&words, grid);
     Ok(())
-}
-
-/// Gives a grid of the smallest size with all cells light, into which [`write_to`] and
-/// [`normal_to`](crate::normal_to()) can write.
-pub fn light_grid() -> Grid
-    ensures size { row_with_side 10 ≡ Some result.size }
-    ensures cells { result.rows ≡ square_of_rows 10 (replicate 10 0) }
-{
-    match Grid::of_rows(10, &[0; 10]) {
-        Ok(grid) => grid,
-        Err(_) => unreachable!(),
-    }
 }

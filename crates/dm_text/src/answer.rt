@@ -24,8 +24,8 @@ use crate::task::RecordTask;
 use crate::text::LF;
 use arrayvec::ArrayVec;
 use dm_symbol::{
-    Grid, MOST_GRID_BLOCKS, Message, NormalFault, Profile, ReadFault, Reading, TooLong, light_grid,
-    normal_to, read_to, usual_limit, write_to,
+    Grid, MOST_GRID_BLOCKS, Message, NormalFault, Profile, ReadFault, Reading, TooLong, normal_to,
+    read_to, usual_limit, write_to,
 };
 use std::marker::Model;
 
@@ -195,9 +195,9 @@ impl Targets {
     /// Gives targets with a light grid and an empty reading.
     pub(crate) fn new() -> Targets {
         Targets {
-            grid: light_grid(),
+            grid: Grid::default(),
             reading: Reading::default(),
-            normal: light_grid(),
+            normal: Grid::default(),
         }
     }
 }

@@ -7,7 +7,7 @@ ghost use Rattle.dm_text.specs.RecordFeeds.{ClosesRecord, LastRecordMeans, Leave
 ghost use Rattle.dm_symbol.specs.Outcomes.{outcome};
 
 use crate::record::{OpenRecord, RecordFault};
-use dm_symbol::{Grid, light_grid};
+use dm_symbol::Grid;
 use std::marker::Model;
 
 /// Cuts a text that comes in pieces into records, the longest stretches of lines that are not empty. It holds the
@@ -63,7 +63,7 @@ impl GridFeed {
             (λ meaning. ClosesRecord self.old piece.now result.taken meaning self.new) }
         ensures some_text { (text : List ℕ) × AreRecordFacts text self.old }
     {
-        let mut grid = light_grid();
+        let mut grid = Grid::default();
         let Some((taken, found)) = self.feed_to(piece, &mut grid) else {
             return Fed {
                 taken: piece.len(),
@@ -86,7 +86,7 @@ impl GridFeed {
         ensures empty { AreRecordFacts [] self.new }
         ensures some_text { (text : List ℕ) × AreRecordFacts text self.old }
     {
-        let mut grid = light_grid();
+        let mut grid = Grid::default();
         let Some(found) = self.finish_to(&mut grid) else {
             return None;
         };

@@ -10,8 +10,7 @@ use dm_layout::{Grid, LARGEST_SIDE, MOST_GRID_CODEWORDS, Size, Words, table};
 use dm_symbol::{
     ContentReadFault, ContentReading, Extent, Form, Message, NormalFault, Profile, ReadFault,
     ReadOptions, Reading, SizeChoice, Symbol, SymbolInspection, SymbolSize, SymbolWords, TooLong,
-    WriteOptions, inspect_symbol_to, light_grid, normal_content_to, read_content_to,
-    write_content_to,
+    WriteOptions, inspect_symbol_to, normal_content_to, read_content_to, write_content_to,
 };
 use gf301::{Poly, generator};
 
@@ -102,7 +101,7 @@ pub(crate) fn grid_of(side: u16, list: &[u8]) -> Grid {
 pub(crate) fn grid_with(side: u16, cells: &[bool]) -> Grid {
     match Grid::new(side, cells) {
         Ok(grid) => grid,
-        Err(_) => light_grid(),
+        Err(_) => Grid::default(),
     }
 }
 
@@ -113,7 +112,7 @@ pub(crate) fn plain(side: u16, dark: bool) -> Grid {
     if count <= MOST_CELLS {
         grid_with(side, &cells[..count])
     } else {
-        light_grid()
+        Grid::default()
     }
 }
 

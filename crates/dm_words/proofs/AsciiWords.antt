@@ -4,13 +4,13 @@ use Rattle.dm_words.proofs.Names.{refl, sym, ap, subst, ◌∙◌, arith, Bool, 
 use Rattle.dm_words.proofs.Names.{AllByRecursion, nat_tests, append-nil, Extent, Item, Byte, Fnc1, codeword_of, Piece}
 use Rattle.dm_words.proofs.Names.{spelled, gathered, AreJoined, IsAsciiUnit, character, digits, fnc1, raised, is_digit}
 use Rattle.dm_words.proofs.Names.{digit_pair, single, ascii, IsAscii, further_pads, pads, padded, AreBytes}
-use Rattle.dm_words.proofs.Names.{SpellsThenPads, plain_padded, IsPart, IsEnd, pad, AreParts, Spells, IsItem}
+use Rattle.dm_words.proofs.Names.{as_content, SaysThenPads, IsPart, IsEnd, pad, AreParts, Spells, IsItem}
 use Rattle.dm_words.specs.declared.codeword.Codeword.TheVariants as codeword
 use Rattle.dm_words.specs.Ascii.{IsOneDigit, BeginsWithDigit, IsGreedy}
 use Rattle.dm_words.specs.Parts.{ascii as ascii_part, nothing}
-use Rattle.dm_words.proofs.SpelledContents.{parts_spell}
+use Rattle.dm_words.proofs.SpelledContents.{parts_say, parts_spell}
 use Rattle.dm_words.proofs.PadWords.{pads_are}
-use Rattle.dm_words.proofs.Segments.{AreBytes-append}
+use Rattle.dm_words.proofs.Pieces.{all-append}
 
 -- Each item has a byte of 0 to 255.
 abbrev pub AreItems : List Item → Type 0
@@ -51,29 +51,14 @@ pair_spells b c hb hc =
     let second : Byte c ≡ Byte (48 + (10 * (b - 48) + (c - 48)) % 10) = ap Byte (omega arith) in
     digits (130 + n) n (digits_of n (omega arith)) refl (rw (← first, ← second) refl)
 
--- What begins with a digit still does with more behind it.
-BeginsWithDigit-append : (x y : List Item) → BeginsWithDigit x → BeginsWithDigit (x ++ y)
-BeginsWithDigit-append [] y h = absurd h
-BeginsWithDigit-append (Byte b ∷ x) y h = h
-BeginsWithDigit-append (Fnc1 ∷ x) y h = absurd h
-
--- The message is what greedy units mean, whose words are these.
-pub record HasUnits (m : List Item) (words : List ℕ) : Type 0 where
-  pub units : List (Piece (List Item))
-  pub each : AllByRecursion (λ u. IsAsciiUnit u.words u.what) units
-  pub greedy : IsGreedy units
-  pub items : m ≡ gathered units
-  pub whole : words ≡ spelled units
-
 -- Units stay greedy with one more before them, unless this is a single digit before a digit.
 greedy_more : (u : Piece (List Item)) (us : List (Piece (List Item)))
     → (IsOneDigit u.what → BeginsWithDigit (gathered us) → ⊥) → IsGreedy us → IsGreedy (u ∷ us)
-greedy_more u [] apart g = tt
-greedy_more u (v ∷ us) apart g = ((λ one begins. apart one (BeginsWithDigit-append v.what (gathered us) begins)), g)
+greedy_more u us h1 h2 = grind (arith, nat_tests, gathered)
 
 -- A unit before a message that has units makes a message that has units, unless it is a single digit before a digit.
 one_more : (words : List ℕ) (items m : List Item) (rest : List ℕ) → IsAsciiUnit words items
-    → (IsOneDigit items → BeginsWithDigit m → ⊥) → HasUnits m rest → HasUnits (items ++ m) (words ++ rest)
+    → (IsOneDigit items → BeginsWithDigit m → ⊥) → IsAscii m rest → IsAscii (items ++ m) (words ++ rest)
 one_more words items m rest u apart h =
     let p : Piece (List Item) = record { words = words; what = items } in
     record {
@@ -90,20 +75,20 @@ not_both : (b c : ℕ) (s t : Bool) → is_digit b ≡ s → is_digit c ≡ t �
 not_both b c s t es et e hb hc = grind (arith, nat_tests)
 
 -- The form from the left of a message is a joining of such units.
-pub units_of : (m : List Item) → AreItems m → HasUnits m (ascii m)
+pub units_of : (m : List Item) → AreItems m → IsAscii m (ascii m)
 units_of [] fit = record { units = []; each = tt; greedy = tt; items = refl; whole = refl }
 units_of (Fnc1 ∷ m) fit =
     one_more (232 ∷ []) (Fnc1 ∷ []) m (ascii m) (fnc1 232 refl refl refl) (λ one begins. one) (units_of m fit.1)
 units_of (Byte b ∷ []) fit =
-    subst (HasUnits (Byte b ∷ [])) (append-nil (single b))
+    subst (IsAscii (Byte b ∷ [])) (append-nil (single b))
     (one_more (single b) (Byte b ∷ []) [] [] (single_spells b fit.0 []) (λ one begins. begins) (units_of [] tt))
 units_of (Byte b ∷ Fnc1 ∷ m) fit =
     one_more _ _ _ _ (single_spells b fit.0 []) (λ one begins. begins) (units_of (Fnc1 ∷ m) fit.1)
 units_of (Byte b ∷ Byte c ∷ m) fit =
     both (is_digit b) (is_digit c) refl refl (units_of m fit.1.1) (units_of (Byte c ∷ m) fit.1) where
-      both : (s t : Bool) → is_digit b ≡ s → is_digit c ≡ t → HasUnits m (ascii m)
-          → HasUnits (Byte c ∷ m) (ascii (Byte c ∷ m))
-          → HasUnits (Byte b ∷ Byte c ∷ m) (cond (s && t) (digit_pair b c ∷ ascii m) (single b ++ ascii (Byte c ∷ m)))
+      both : (s t : Bool) → is_digit b ≡ s → is_digit c ≡ t → IsAscii m (ascii m)
+          → IsAscii (Byte c ∷ m) (ascii (Byte c ∷ m))
+          → IsAscii (Byte b ∷ Byte c ∷ m) (cond (s && t) (digit_pair b c ∷ ascii m) (single b ++ ascii (Byte c ∷ m)))
       both true true es et h k =
           one_more (digit_pair b c ∷ []) (Byte b ∷ Byte c ∷ []) m (ascii m) (pair_spells b c es et)
           (λ one begins. one) h
@@ -146,21 +131,13 @@ ascii_spells extent m count fit = parts_spell extent (padded (ascii m) count) m 
 
 -- It has only pads behind it.
 pub ascii_padded : (extent : Extent) (m : List Item) (count : ℕ) → AreItems m
-    → SpellsThenPads extent (padded (ascii m) count) m
+    → SaysThenPads extent (padded (ascii m) count) (as_content m)
 unfolding ascii_parts
-ascii_padded extent m count fit = plain_padded (ascii_parts extent m count fit) (pads_are (ascii m) count)
-
--- The form from the left of a message is its ASCII form.
-pub is_ascii : (m : List Item) → AreItems m → IsAscii m (ascii m)
-is_ascii m fit = let h =
-    units_of m fit in record { units = h.units; each = h.each; greedy = h.greedy; items = h.items; whole = h.whole }
+ascii_padded extent m count fit = parts_say extent _ m (ascii_parts extent m count fit) (pads_are (ascii m) count)
 
 -- The codewords of a byte by itself are 0 to 255.
 single_bytes : (b : ℕ) → b < 256 → AreBytes (single b)
-single_bytes b lt = by_test (ltb b 128) refl where
-  by_test : (t : Bool) → ltb b 128 ≡ t → AreBytes (cond t ((b + 1) ∷ []) (235 ∷ (b - 127) ∷ []))
-  by_test true e = (let l : b < 128 = grind (arith, nat_tests) in omega arith, tt)
-  by_test false e = (omega arith, (omega arith, tt))
+single_bytes b lt = grind (arith, nat_tests, ltb, cond)
 
 -- The codeword of two digits is 0 to 255.
 pair_byte : (b c : ℕ) → is_digit b ≡ true → is_digit c ≡ true → digit_pair b c < 256
@@ -172,14 +149,10 @@ ascii_bytes [] fit = tt
 ascii_bytes (Fnc1 ∷ m) fit = (omega arith, ascii_bytes m fit.1)
 ascii_bytes (Byte b ∷ []) fit = single_bytes b fit.0
 ascii_bytes (Byte b ∷ Fnc1 ∷ m) fit =
-    AreBytes-append (single b) (ascii (Fnc1 ∷ m)) (single_bytes b fit.0) (ascii_bytes (Fnc1 ∷ m) fit.1)
+    all-append (λ w. w < 256) (single b) (ascii (Fnc1 ∷ m)) (single_bytes b fit.0) (ascii_bytes (Fnc1 ∷ m) fit.1)
 ascii_bytes (Byte b ∷ Byte c ∷ m) fit =
-    both (is_digit b) (is_digit c) refl refl (ascii_bytes m fit.1.1) (ascii_bytes (Byte c ∷ m) fit.1) where
-      both : (s t : Bool) → is_digit b ≡ s → is_digit c ≡ t → AreBytes (ascii m) → AreBytes (ascii (Byte c ∷ m))
-          → AreBytes (cond (s && t) (digit_pair b c ∷ ascii m) (single b ++ ascii (Byte c ∷ m)))
-      both true true es et h k = (pair_byte b c es et, h)
-      both true false es et h k = AreBytes-append (single b) (ascii (Byte c ∷ m)) (single_bytes b fit.0) k
-      both false t es et h k = AreBytes-append (single b) (ascii (Byte c ∷ m)) (single_bytes b fit.0) k
+    let rest = ascii_bytes (Byte c ∷ m) fit.1 in
+    grind (arith, nat_tests, ascii, pair_byte, all-append, single_bytes, rest, ascii_bytes m fit.1.1)
 
 -- ---- it is the only one
 
@@ -212,22 +185,17 @@ ascii_pair b c rest hb hc = rw (hb, hc) refl
 -- Where the items of units begin with a digit, so do those of the first unit.
 first_begins : (u : Piece (List Item)) (us : List (Piece (List Item))) → IsAsciiUnit u.words u.what
     → BeginsWithDigit (gathered (u ∷ us)) → BeginsWithDigit u.what
-first_begins u us (character w b k e i) h = rw i (let g = rw i at h in g)
-first_begins u us (digits w n k e i) h = rw i (let g = rw i at h in g)
-first_begins u us (fnc1 w k e i) h = rw i (let g = rw i at h in g)
-first_begins u us (raised s w b k l e i) h = rw i (let g = rw i at h in g)
+first_begins u us h1 h2 = grind (arith, nat_tests)
 
 -- No single digit stands before what the further units mean, where that begins with a digit.
 apart_from : (u : Piece (List Item)) (us : List (Piece (List Item)))
     → AllByRecursion (λ u. IsAsciiUnit u.words u.what) us → IsGreedy (u ∷ us) → IsOneDigit u.what
     → BeginsWithDigit (gathered us) → ⊥
-apart_from u [] each greedy one begins = begins
-apart_from u (v ∷ us) each greedy one begins = greedy.0 one (first_begins v us each.0 begins)
+apart_from u us h1 h2 h3 h4 = grind (arith, nat_tests, first_begins)
 
 -- The units behind a greedy prefix are greedy.
 greedy_rest : (u : Piece (List Item)) (us : List (Piece (List Item))) → IsGreedy (u ∷ us) → IsGreedy us
-greedy_rest u [] g = tt
-greedy_rest u (v ∷ us) g = g.1
+greedy_rest u us h1 = grind (arith, nat_tests)
 
 -- The form of a message that begins with the items of a unit begins with that unit.
 unit_first : (words : List ℕ) (items rest : List Item) → IsAsciiUnit words items

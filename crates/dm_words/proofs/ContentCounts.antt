@@ -1,19 +1,13 @@
 -- How many items and marks the codewords of a content hold.
-use Rattle.dm_words.proofs.Names.{◌≡◌, ℕ, ◌+◌, ◌-◌, ◌*◌, ◌≤◌, Bool, true, false, if◌then◌else◌, List, [], ◌∷◌, ◌++◌}
+use Rattle.dm_words.proofs.Names.{◌≡◌, ℕ, ◌+◌, ◌-◌, ◌*◌, ◌≤◌, List, [], ◌∷◌, ◌++◌}
 use Rattle.dm_words.proofs.Names.{length, take, drop, Option, Some, None, sym, ◌∙◌, ap, arith, length-append}
 use Rattle.dm_words.proofs.Names.{take-append-drop, Item, Head, Mark, Profile, ascii, designator, head_words}
 use Rattle.dm_words.proofs.Names.{ContentView, mark_words, ascii_with_marks, form_by, content_form}
-use Rattle.std.proofs.Common.{nat_lt}
 use Rattle.dm_words.proofs.NormalForms.{normal_form_items, two_items}
-
--- A list that is chosen from two has a codeword where both have.
-chosen_some : (b : Bool) (xs ys : List ℕ) → 1 ≤ length xs → 1 ≤ length ys → 1 ≤ length (if b then xs else ys)
-chosen_some true xs ys hx hy = hx
-chosen_some false xs ys hx hy = hy
 
 -- A designator has a codeword.
 designator_some : (number : ℕ) → 1 ≤ length (designator number)
-designator_some number = grind (arith, chosen_some, nat_lt)
+designator_some number = grind arith
 
 -- Items with marks have at least one codeword for each two items, and two for each mark.
 marked_counts : (before : ℕ) (items : List Item) (marks : List Mark)

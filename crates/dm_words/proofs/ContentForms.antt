@@ -1,20 +1,16 @@
 -- The normal form of a content says it.
-use Rattle.dm_words.proofs.Names.{◌≡◌, ℕ, zero, suc, ◌+◌, ◌-◌, ◌≤◌, List, [], ◌∷◌, ◌++◌, length, take, drop, refl, sym}
-use Rattle.dm_words.proofs.Names.{subst, ap, ◌∙◌, append_assoc, arith, length-append, Option, Some, None}
-use Rattle.dm_words.proofs.Names.{AllByRecursion, append-nil, length-take, length-drop, take-append-drop}
-use Rattle.dm_words.proofs.Names.{recursion_from_All, most_data, Wide, Item, Head, Mark, Headed, Profile, IsItem}
-use Rattle.dm_words.proofs.Names.{IsAsciiUnit, ascii, Piece, spelled, gathered, whats, AreJoined, pads, padded}
-use Rattle.dm_words.proofs.Names.{IsPlainSaid, designator, IsHead, head_words, ContentView, AreMarks, IsContent, Said}
-use Rattle.dm_words.proofs.Names.{Items, Number, IsContentPart, AreContentParts, said_items, said_marks, headed, Says}
-use Rattle.dm_words.proofs.Names.{mark_words, ascii_with_marks, form_by, content_form}
+use Rattle.dm_words.proofs.Names.{◌≡◌, ℕ, ◌+◌, ◌-◌, ◌≤◌, List, [], ◌∷◌, ◌++◌, length, take, drop, refl, sym, subst}
+use Rattle.dm_words.proofs.Names.{ap, ◌∙◌, append_assoc, arith, length-append, AllByRecursion, append-nil}
+use Rattle.dm_words.proofs.Names.{length-take, length-drop, take-append-drop, Wide, Item, Mark, Profile, IsItem}
+use Rattle.dm_words.proofs.Names.{IsAsciiUnit, ascii, Piece, spelled, gathered, whats, AreJoined, padded, IsPlainSaid}
+use Rattle.dm_words.proofs.Names.{designator, ContentView, AreMarks, Said, Items, Number, IsContentPart, said_items}
+use Rattle.dm_words.proofs.Names.{said_marks, mark_words, ascii_with_marks, content_form, nat_tests}
 use Rattle.dm_words.specs.Plain as plainly
-use Rattle.dm_words.proofs.AsciiWords.{AreItems, units_of, pads_end}
+use Rattle.dm_words.proofs.AsciiWords.{AreItems, units_of}
 use Rattle.dm_words.proofs.Designators.{designator_says}
-use Rattle.dm_words.proofs.Heads.{head_says}
-use Rattle.dm_words.proofs.NormalForms.{normal_form_spells}
 use Rattle.dm_words.proofs.PadWords.{length-padded}
 use Rattle.dm_words.proofs.PlainParts.{plain_said}
-use Rattle.dm_words.proofs.SpelledContents.{plain_content}
+use Rattle.dm_words.proofs.Pieces.{all-take}
 
 -- A piece is right wherever it stands.
 abbrev pub IsPlace : (ℕ → List ℕ → List ℕ → Said → Type 0) → Piece Said → Type 0
@@ -66,9 +62,7 @@ units_marks : (before : ℕ) (us : List (Piece (List Item))) (rest : List (Piece
     → said_marks before (whats (units_then us rest)) ≡ said_marks (before + length (gathered us)) (whats rest)
 units_marks before [] rest = (let e : before ≡ before + 0 = omega arith in ap (λ (n : ℕ). said_marks n (whats rest)) e)
 units_marks before (u ∷ us) rest =
-    let e : (before + length u.what) + length (gathered us) ≡ before + length (u.what ++ gathered us) =
-    omega (arith, length-append u.what (gathered us)) in
-    units_marks (before + length u.what) us rest ∙ ap (λ (n : ℕ). said_marks n (whats rest)) e
+    grind (arith, nat_tests, gathered, length-append, said_marks, whats, units_marks (before + length u.what) us rest)
 
 -- Items with marks are what these parts say, whose words are these.
 pub record HasParts (before : ℕ) (items : List Item) (marks : List Mark) (words : List ℕ) : Type 0 where
@@ -77,12 +71,6 @@ pub record HasParts (before : ℕ) (items : List Item) (marks : List Mark) (word
   pub whole : words ≡ spelled parts
   pub items_are : said_items (whats parts) ≡ items
   pub marks_are : said_marks before (whats parts) ≡ marks
-
--- The first items are items, and so are the others.
-pub items_take : (n : ℕ) (items : List Item) → AreItems items → AreItems (take n items) × AreItems (drop n items)
-items_take zero items h = (tt, h)
-items_take (suc n) [] h = (tt, tt)
-items_take (suc n) (i ∷ items) h = (let r = items_take n items h.1 in ((h.0, r.0), r.1))
 
 -- Marks lie no further back than the last place.
 pub marks_within : (least most : ℕ) (marks : List Mark) → AreMarks least most marks → least ≤ most
@@ -118,7 +106,7 @@ parts_of before items (m ∷ marks) fit are =
     let there : before + length (take n items) ≡ m.place = omega (arith, long, are.0) in
     let last : before + length items ≡ m.place + length (drop n items) =
     omega (arith, length-drop n items, within, are.0) in
-    let fits = items_take n items fit in
+    let fits = all-take IsItem n items fit in
     let r = parts_of m.place (drop n items) marks fits.1 (subst (λ (k : ℕ). AreMarks m.place k marks) last are.2) in
     let p : Piece Said = record { words = mark_words m; what = Number m.number } in
     let free : IsFree p =
@@ -131,76 +119,7 @@ parts_of before items (m ∷ marks) fit are =
     (ap (λ (w : List ℕ). mark_words m ++ w) r.whole) marked in
     rw (ap (λ (i : List Item). take n items ++ i) r.items_are ∙ take-append-drop n items) at h
 
--- Parts that say this, and pads behind them, from a place on.
-content_parts : (place first count : ℕ) (ps : List (Piece Said)) (words : List ℕ) → AllByRecursion IsFree ps → words
-    ≡ spelled ps → AreContentParts Wide place (words ++ pads first count) (whats ps)
-content_parts place first count ps words free whole = record {
-  parts = ps;
-  after = pads first count;
-  joined = free_joined (IsContentPart Wide) place ps (pads first count) (all_said ps free);
-  ended = pads_end first count;
-  whole = ap (λ (w : List ℕ). w ++ pads first count) whole;
-  said_are = refl;
-}
-
--- A content with marks and without a head is said by its form.
-marked_says : (items : List Item) (marks : List Mark) (count : ℕ) → AreItems items → AreMarks 0 (length items) marks
-    → Says Wide (padded (ascii_with_marks 0 items marks) count)
-    (record { head = None; items = items; marks = marks })
-marked_says items marks count fit are =
-    let words = ascii_with_marks 0 items marks in
-    let whole : length items ≡ 0 + length items = omega arith in
-    let h = parts_of 0 items marks fit (subst (λ (k : ℕ). AreMarks 0 k marks) whole are) in
-    rw h.marks_are at (plain_content Wide (padded words count) (whats h.parts) items
-    (content_parts 1 (length words + 1) (count - length words) h.parts words h.free h.whole) h.items_are)
-
--- A content with a head is said by its form.
-headed_says : (said : Head) (items : List Item) (marks : List Mark) (count : ℕ) → IsHead (Some said) → AreItems items
-    → AreMarks 0 (length items) marks
-    → Says Wide (padded (head_words (Some said) ++ ascii_with_marks 0 items marks) count)
-    (record { head = Some said; items = items; marks = marks })
-headed_says said items marks count right fit are =
-    let first = head_words (Some said) in
-    let words = ascii_with_marks 0 items marks in
-    let all = first ++ words in
-    let p = pads (length all + 1) (count - length all) in
-    let whole : length items ≡ 0 + length items = omega arith in
-    let h = parts_of 0 items marks fit (subst (λ (k : ℕ). AreMarks 0 k marks) whole are) in
-    record {
-      opening = Headed said;
-      place = 1 + length first;
-      more = words ++ p;
-      opened = record {
-        first = first;
-        is_opening = headed said refl (head_says said right) refl;
-        whole = append_assoc first words p;
-        place_is = refl;
-      };
-      said = whats h.parts;
-      parts = content_parts (1 + length first) (length all + 1) (count - length all) h.parts words h.free h.whole;
-      content_is = rw (h.items_are, h.marks_are, append-nil items) refl;
-    }
-
--- The form of a content, with pads up to a count, says the content.
-form_says : (profile : Profile) (said : Option Head) (items : List Item) (marks : List Mark) (count : ℕ)
-    → IsContent (record { head = said; items = items; marks = marks })
-    → length (form_by profile said items marks) ≤ count → count ≤ most_data
-    → Says Wide (padded (form_by profile said items marks) count)
-    (record { head = said; items = items; marks = marks })
-form_says profile None items [] count right le most =
-    normal_form_spells Wide profile items count right.items le most
-form_says profile None items (m ∷ marks) count right le most =
-    marked_says items (m ∷ marks) count (recursion_from_All IsItem items right.items) right.marks
-form_says profile (Some said) items marks count right le most =
-    headed_says said items marks count right.head (recursion_from_All IsItem items right.items) right.marks
-
--- The normal form of a content, with pads up to a count, says the content.
-pub content_form_says : (profile : Profile) (l : ContentView) (count : ℕ) → IsContent l
-    → length (content_form profile l) ≤ count → count ≤ most_data
-    → Says Wide (padded (content_form profile l) count) l
-content_form_says profile l count right le most = form_says profile l.head l.items l.marks count right le most
-
--- With pads it has as many codewords as asked for.
+-- With pads the normal form has as many codewords as asked for.
 pub content_form_count : (profile : Profile) (l : ContentView) (count : ℕ) → length (content_form profile l) ≤ count
     → length (padded (content_form profile l) count) ≡ count
 content_form_count profile l count le = length-padded (content_form profile l) count le

@@ -1,10 +1,9 @@
 -- The part of a content that the scan finds first is the part of the definition that begins there.
-use Rattle.dm_words.proofs.Names.{◌≡◌, ℕ, ◌+◌, ◌<◌, ◌≤◌, List, [], ◌∷◌, ◌++◌, length, take, drop, refl, ap, subst, ◌∙◌}
+use Rattle.dm_words.proofs.Names.{◌≡◌, ℕ, ◌+◌, ◌<◌, ◌≤◌, List, [], ◌∷◌, ◌++◌, length, take, drop, refl, ap, ◌∙◌}
 use Rattle.dm_words.proofs.Names.{arith, length-append, Bool, true, false, cond, Option, Some, None, ◌==◌, nat_tests}
 use Rattle.dm_words.proofs.Names.{Extent, Usual, Wide, Item, WordFault, Designator, ContentFault, codeword_of, IsEnd}
-use Rattle.dm_words.proofs.Names.{pad, Said, Items, Number, IsContentPart, part, mark, BeginNoEci, IsContentFault, word}
-use Rattle.dm_words.proofs.Names.{Step, Takes, Stops, first_part, first_designator, as_said, mark_by}
-use Rattle.dm_words.proofs.Names.{first_content_part}
+use Rattle.dm_words.proofs.Names.{Said, Items, IsContentPart, part, mark, BeginNoEci, IsContentFault, word, Step}
+use Rattle.dm_words.proofs.Names.{Takes, Stops, first_part, first_designator, as_said, mark_by, first_content_part}
 use Rattle.dm_words.specs.declared.contents.fault.ContentFault.TheVariants as fault
 use Rattle.dm_words.specs.Parts.{nothing}
 use Rattle.dm_words.specs.Contents.{designator}
@@ -79,8 +78,7 @@ judged Wide place (w ∷ more) fit = by_test (w == 241) refl where
 -- Whatever the scan finds is right.
 judged_as : (extent : Extent) (place : ℕ) (words : List ℕ) (found : ContentFound) → IsBytes words
     → first_content_part extent place words ≡ found → Judged extent place words found
-judged_as extent place words found fit e = let P : ContentFound
-    → Type 0 = λ s. Judged extent place words s in subst P e (judged extent place words fit)
+judged_as extent place words found fit e = grind (arith, nat_tests, judged)
 
 -- A part that is found is a part.
 pub content_part_sound : (extent : Extent) → IsSound (first_content_part extent) (IsContentPart extent) IsBytes
@@ -116,34 +114,24 @@ as_part Wide place w more other = by_test (w == 241) refl where
 -- No part of a message begins with ECI.
 pub no_eci : (extent : Extent) (place w n : ℕ) (more : List ℕ) (items : List Item)
     → first_part extent place (w ∷ more) ≡ Takes n items → w ≡ 241 → ⊥
-no_eci extent place w n more items e is =
-    cc
+no_eci extent place w n more items e is = grind (arith, nat_tests)
 
 -- A part of a message that is a prefix is found.
 found_part : (extent : Extent) (place : ℕ) (words after : List ℕ) (items : List Item)
     → (first_part extent place (words ++ after) ≡ Takes (length words) items) × (0 < length words)
     → (first_content_part extent place (words ++ after) ≡ Takes (length words) (Items items)) × (0 < length words)
-found_part extent place [] after items c = absurd (omega (arith, c.1))
-found_part extent place (w ∷ ws) after items c = (
-  as_part extent place w (ws ++ after)
-      (λ wide. no_eci extent place w (length (w ∷ ws)) (ws ++ after) items c.0) ∙ ap as_said c.0,
-  c.1,
-)
+found_part extent place words after items h1 = grind (arith, nat_tests, as_part, no_eci, as_said)
 
 -- A part that is a prefix is found.
 pub content_part_complete : (extent : Extent) → IsComplete (first_content_part extent) (IsContentPart extent)
 content_part_complete extent place words after said (part items p is) =
     rw is (found_part extent place words after items (part_complete extent place words after items p))
-content_part_complete extent place words after said (mark d number wide e whole is) =
-    let f = designators.designator_complete d after number e in
-    let count : 1 + length d ≡ length (241 ∷ d) = omega arith in
-    rw (wide, whole, is) (ap (mark_by place) f ∙ ap (λ (n : ℕ). Takes n (Number number)) count, omega arith)
+content_part_complete extent place words after said (mark d number wide e whole is) = grind (arith, nat_tests, mark_by)
 
 -- An end that is a prefix is found.
 pub content_end_complete : (extent : Extent) (place : ℕ) (words : List ℕ) → IsEnd words
     → first_content_part extent place words ≡ Stops None
-content_end_complete extent place words (nothing e) = rw e refl
-content_end_complete extent place words (pad w more k e) = grind (arith, codeword_of, as_part, as_said, end_complete)
+content_end_complete extent place words h1 = grind (arith, nat_tests, codeword_of, as_part, as_said, end_complete)
 
 -- A fault of a message that is there is found.
 found_fault : (extent : Extent) (place : ℕ) (words : List ℕ) (f : WordFault) → (extent ≡ Wide → BeginNoEci words)

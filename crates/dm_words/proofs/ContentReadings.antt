@@ -1,9 +1,10 @@
 -- What the calls that read a content leave.
-use Rattle.dm_words.proofs.Names.{◌≡◌, ℕ, zero, suc, ◌+◌, ◌*◌, ◌≤◌, List, [], ◌++◌, length, refl, sym, ap, subst, ◌∙◌}
-use Rattle.dm_words.proofs.Names.{arith, length-append, Option, Some, None, Result, Ok, Err, Extent, Wide, Item}
-use Rattle.dm_words.proofs.Names.{ContentFault, Mark, Opened, Opening, most_spelled, ContentView, IsOpening, Says}
-use Rattle.dm_words.proofs.Names.{opening_items, closing_items, IsContentResult, opened, opening_content, content_of}
-use Rattle.dm_words.proofs.Names.{IsContentAt}
+use Rattle.dm_words.proofs.Names.{◌≡◌, ℕ, ◌+◌, ◌*◌, ◌≤◌, List, [], ◌++◌, length, refl, sym, ap, subst, ◌∙◌, arith}
+use Rattle.dm_words.proofs.Names.{length-append, Option, Some, None, Result, Ok, Err, Extent, Item, ContentFault, Mark}
+use Rattle.dm_words.proofs.Names.{Opened, Opening, most_spelled, ContentView, IsOpening, Says, opening_items}
+use Rattle.dm_words.proofs.Names.{closing_items, IsContentResult, opened, opening_content, content_of, IsContentAt}
+use Rattle.dm_words.proofs.Names.{nat_tests, content_on, drop}
+use Rattle.dm_words.specs.inner.ContentScan.{and_closing}
 use Rattle.dm_words.proofs.Pairs.{IsBytes}
 use Rattle.dm_words.proofs.Openings as openings
 use Rattle.dm_words.proofs.Openings.{OpeningJudged}
@@ -20,16 +21,11 @@ pub record HasOpeningRoom (extent : Extent) (words : List ℕ) (o : Opened) : Ty
   pub room : (most : ℕ) → most_spelled extent (length words) ≤ most
       → length (opening_items o.opening) + length (closing_items o.opening) + 2 * length words ≤ most + 2 * o.count
 
--- Where there are codewords, seven items more than two for each can be spelled.
-some_room : (count most : ℕ) → 1 ≤ count → most_spelled Wide count ≤ most → 2 * count + 7 ≤ most
-some_room zero most some le = absurd (omega (arith, some))
-some_room (suc count) most some le = le
-
 -- The items of an opening have room, and so have those that close it.
 room_by : (extent : Extent) (words more : List ℕ) (opening : Opening) (count most : ℕ)
     → IsOpening extent words more opening → length words ≤ count → most_spelled extent count ≤ most
     → length (opening_items opening) + length (closing_items opening) + 2 * count ≤ most + 2 * length words
-room_by extent words more opening count most h1 h2 h3 = grind (arith, room_of_two, length-append, some_room)
+room_by extent words more opening count most h1 h2 h3 = grind (arith, room_of_two, length-append, nat_tests)
 
 -- What is found has room.
 pub opening_room : (extent : Extent) (words : List ℕ) (o : Opened) → opened extent words ≡ Some o
@@ -91,3 +87,13 @@ is_content_result extent words (Err f) fit is = record {
   most = tt;
   most_marks = tt;
 }
+
+-- What is read behind an opening is, with the items that close it, what the words say.
+pub closed : (extent : Extent) (words : List ℕ) (o : Opened) (first : ContentView)
+    (read : Result ContentView ContentFault)
+    → opened extent words ≡ Some o → first ≡ opening_content o.opening
+    → read ≡ content_on extent first (o.count + 1) (drop o.count words)
+    → and_closing o.opening read ≡ content_of extent words
+closed extent words o first read e begins is =
+    let place : o.count + 1 ≡ 1 + o.count = omega arith in
+    rw e (ap (and_closing o.opening) (rw (place, begins) at is))

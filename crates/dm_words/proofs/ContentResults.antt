@@ -1,15 +1,15 @@
 -- What codewords say in an extent, and with which fault they are refused: one content or one fault.
-use Rattle.dm_words.proofs.Names.{◌≡◌, ◌≤◌, ◌<◌, ℕ, List, length, sym, ap, subst, ◌∙◌, inl, inr, recursion_from_All}
-use Rattle.dm_words.proofs.Names.{Extent, Usual, Wide, Profile, WordFault, ContentFault, most_data, padded, normal_form}
-use Rattle.dm_words.proofs.Names.{Spells, AreCodewords, ContentView, IsContent, Says, IsRefused, content_form}
-use Rattle.dm_words.proofs.Names.{HasOneContentResult, as_content}
+use Rattle.dm_words.proofs.Names.{◌≡◌, ◌≤◌, ◌<◌, ℕ, List, length, ap, subst, ◌∙◌, inl, inr, recursion_from_All}
+use Rattle.dm_words.proofs.Names.{Extent, Usual, Wide, Profile, WordFault, ContentFault, most_data, padded}
+use Rattle.dm_words.proofs.Names.{normal_form, Spells, AreCodewords, ContentView, IsContent, Says, IsRefused}
+use Rattle.dm_words.proofs.Names.{content_form, HasOneContentResult, as_content, arith, nat_tests}
 use Rattle.dm_words.specs.declared.contents.fault.ContentFault.TheVariants as fault
 use Rattle.dm_words.specs.Laws.{HasOneResult}
 use Rattle.dm_words.specs.ContentExtents.{IsSaidIn}
 use Rattle.dm_words.proofs.Extents.{said_wide}
-use Rattle.dm_words.proofs.ContentForms.{content_form_says}
 use Rattle.dm_words.proofs.MessageReadings.{usual_plain, usual_word}
 use Rattle.dm_words.proofs.NormalForms.{normal_form_spells}
+use Rattle.dm_words.proofs.NormalPlain.{content_form_says}
 use Rattle.dm_words.proofs.WholeContents.{said_reads, refused_reads}
 use Rattle.dm_words.proofs.WholeContents as whole
 
@@ -74,11 +74,5 @@ one_result words fit = elim (one_content Usual words fit) [
 pub form_says_in : (extent : Extent) (profile : Profile) (l : ContentView) (count : ℕ) → IsContent l → IsSaidIn extent l
     → length (content_form profile l) ≤ count → count ≤ most_data
     → Says extent (padded (content_form profile l) count) l
-form_says_in Wide profile l count right is le most = content_form_says profile l count right le most
-form_says_in Usual profile l count right is le most =
-    let form : content_form profile l ≡ normal_form profile l.items = ap (content_form profile) is in
-    let le_is : length (normal_form profile l.items) ≤ count = subst (λ w. length w ≤ count) form le in
-    let s : Spells Usual (padded (normal_form profile l.items) count) l.items =
-    normal_form_spells Usual profile l.items count right.items le_is most in
-    subst (Says Usual (padded (content_form profile l) count)) (sym is)
-    (subst (λ w. Spells Usual (padded w count) l.items) (sym form) s)
+form_says_in extent profile l count h1 h2 h3 h4 =
+    grind (arith, nat_tests, content_form_says, content_form, normal_form, padded, normal_form_spells)

@@ -1,25 +1,23 @@
 -- Texts and marks that are written one behind the other say a content.
 use Rattle.dm_words.proofs.Names.{◌≡◌, ℕ, ◌+◌, ◌-◌, ◌≤◌, List, [], ◌∷◌, ◌++◌, length, append_assoc, refl, sym, take}
-use Rattle.dm_words.proofs.Names.{drop, ap, subst, ◌∙◌, arith, length-append, Some, None, Option, append-nil, take_rest}
-use Rattle.dm_words.proofs.Names.{take_all, take-append-drop, length-take, take-add, Wide, Item, Head, Mark, Opening}
-use Rattle.dm_words.proofs.Names.{Headed, Framed, codeword_of, eci_word, designator, most_assigned, IsHead, head_words}
-use Rattle.dm_words.proofs.Names.{Piece, spelled, whats, AreJoined, ContentView, AreMarks, Said, Items, Number}
-use Rattle.dm_words.proofs.Names.{IsContentPart, mark, AreContentParts, said_items, said_marks, AreOpened, headed}
-use Rattle.dm_words.proofs.Names.{framed, said_content, Says, ascii_with_marks, macro_text, BeginsFnc1, FramesFnc1}
-use Rattle.dm_words.proofs.Names.{pads, padded, IsPlainSaid, ArePads, SaysThenPads, AreSaid, view_of, NoUnlatchFirst}
-use Rattle.dm_words.proofs.Names.{ArePartsWritten}
+use Rattle.dm_words.proofs.Names.{drop, ap, subst, ◌∙◌, arith, length-append, Some, None, Option, append-nil}
+use Rattle.dm_words.proofs.Names.{take_rest, take_all, take-append-drop, length-take, take-add, Wide, Item, Head}
+use Rattle.dm_words.proofs.Names.{Mark, Opening, Headed, Framed, codeword_of, eci_word, designator, most_assigned}
+use Rattle.dm_words.proofs.Names.{IsHead, head_words, Piece, spelled, whats, AreJoined, ContentView, AreMarks, Said}
+use Rattle.dm_words.proofs.Names.{Items, Number, IsContentPart, mark, AreContentParts, said_items, said_marks}
+use Rattle.dm_words.proofs.Names.{AreOpened, headed, framed, said_content, Says, ascii_with_marks, macro_text}
+use Rattle.dm_words.proofs.Names.{BeginsFnc1, FramesFnc1, pads, padded, IsPlainSaid, ArePads, SaysThenPads, AreSaid}
+use Rattle.dm_words.proofs.Names.{view_of, NoUnlatchFirst, ArePartsWritten, nat_tests}
 use Rattle.dm_words.proofs.MarkedCosts.{IsForth}
 use Rattle.dm_words.specs.declared.codeword.Codeword.TheVariants as codeword
 use Rattle.dm_words.specs.Plain as plainly
-use Rattle.dm_words.specs.SmallestContents.{of_content}
 use Rattle.dm_words.proofs.AsciiWords.{AreItems, pads_end}
 use Rattle.dm_words.proofs.Designators.{designator_says}
 use Rattle.dm_words.proofs.Frames.{frames_not}
 use Rattle.dm_words.proofs.Heads.{head_says}
 use Rattle.dm_words.proofs.ContentForms.{parts_of, free_joined, all_said}
-use Rattle.dm_words.proofs.PadWords.{pads_are}
-use Rattle.dm_words.proofs.Pieces.{spelled-append, whats-append}
-use Rattle.dm_words.proofs.SmallestSymbols.{filled, pads_begin}
+use Rattle.dm_words.proofs.PadWords.{filled, pads_are, pads_begin}
+use Rattle.dm_words.proofs.Pieces.{spelled-append, whats-append, joined-append}
 use Rattle.dm_words.proofs.SpelledContents.{as_said, said_words, same_items, no_marks, said_joined, plainly_joined}
 use Rattle.dm_words.proofs.SpelledContents.{opened_plain}
 
@@ -44,23 +42,7 @@ marks-append : (seen : ℕ) (a b : List Said) → said_marks seen (a ++ b)
     ≡ said_marks seen a ++ said_marks (seen + length (said_items a)) b
 marks-append seen [] b = (let e : seen ≡ seen + 0 = omega arith in ap (λ (n : ℕ). said_marks n b) e)
 marks-append seen (Items items ∷ a) b = grind (arith, said_items, length-append, marks-append (seen + length items) a b)
-marks-append seen (Number number ∷ a) b =
-    ap (λ (r : List Mark). (let m : Mark = record { place = seen; number = number } in m) ∷ r) (marks-append seen a b)
-
--- Parts that are joined, and more behind them.
-joined-append : (R : ℕ → List ℕ → List ℕ → Said → Type 0) (place : ℕ) (a b : List (Piece Said)) (after : List ℕ)
-    → AreJoined R place a (spelled b ++ after)
-    → AreJoined R (place + length (spelled a)) b after → AreJoined R place (a ++ b) after
-joined-append R place [] b after h k =
-    let e : place + 0 ≡ place = omega arith in subst (λ (p : ℕ). AreJoined R p b after) e k
-joined-append R place (p ∷ a) b after h k =
-    let all : spelled a ++ (spelled b ++ after) ≡ spelled (a ++ b) ++ after =
-    sym (append_assoc (spelled a) (spelled b) after) ∙ ap (λ (l : List ℕ). l ++ after) (sym (spelled-append a b)) in
-    let there : place + length (p.words ++ spelled a) ≡ (place + length p.words) + length (spelled a) =
-    omega (arith, length-append p.words (spelled a)) in (
-      subst (λ (l : List ℕ). R place p.words l p.what) all h.0,
-      joined-append R (place + length p.words) a b after h.1 (rw there at k),
-    )
+marks-append seen (Number number ∷ a) b = grind (arith, nat_tests, marks-append seen a b)
 
 -- More parts are written.
 said_more : (total : ℕ) (base old new : List ℕ) (seen : ℕ) (items : List Item) (marks : List Mark)
@@ -223,7 +205,7 @@ pub record SaysPlainly (words : List ℕ) (l : ContentView) : Type 0 where
 
 -- So they say it, with pads behind them.
 pub says_so : (words : List ℕ) (l : ContentView) → SaysPlainly words l → SaysThenPads Wide words l
-says_so words l p = of_content refl p.spells p.pads_are
+says_so words l p = record { says = p.spells; pads = p.pads_are }
 
 -- An opening and parts say a content, with pads behind them.
 says_padded : (words : List ℕ) (l : ContentView) (opening : Opening) (place : ℕ) (more : List ℕ) (said : List Said)

@@ -1,13 +1,11 @@
 -- The costs of EDIFACT obey the rules too, and no words are fewer than the cost.
 use Rattle.dm_words.proofs.Names.{◌≡◌, ℕ, zero, suc, ◌+◌, ◌*◌, ◌≤◌, List, [], ◌∷◌, ◌++◌, length, refl, ap, arith, true}
-use Rattle.dm_words.proofs.Names.{ltb, length-append, nat_tests, Extent, Usual, Wide, Item, Byte, Edifact, Setting}
-use Rattle.dm_words.proofs.Names.{BeginsFrame, FramesNoFnc1, IsPart, AreParts, Spells, Groups, never, leave}
-use Rattle.dm_words.proofs.Names.{byte_before, has_edifact, stay_edifact, or_leave_edifact, parts_cost, at_end}
-use Rattle.dm_words.proofs.Names.{before_words, IsLeastCost}
+use Rattle.dm_words.proofs.Names.{ltb, nat_tests, Extent, Usual, Wide, Item, Byte, Edifact, Setting}
+use Rattle.dm_words.proofs.Names.{IsPart, Groups, never, leave, byte_before, has_edifact, stay_edifact}
+use Rattle.dm_words.proofs.Names.{or_leave_edifact, parts_cost, before_words}
 use Rattle.dm_words.specs.inner.Costs.{owed_group, row}
-use Rattle.dm_words.proofs.SpelledContents.{HasMessage, in_parts, in_frame, spelled_has}
-use Rattle.dm_words.proofs.CostsMet.{least_is, nothing_costs, owes, are_costs}
-use Rattle.dm_words.proofs.LowerBounds.{leave_bounds, IsEdifactLower, part_lower, parts_lower}
+use Rattle.dm_words.proofs.CostsMet.{least_is, owes, are_costs}
+use Rattle.dm_words.proofs.LowerBounds.{leave_bounds, IsEdifactLower, part_lower}
 use Rattle.dm_words.proofs.EdifactBounds.{AreEdifactCosts, edifact_lower}
 
 -- ---- what is owed in a run of EDIFACT
@@ -121,40 +119,12 @@ edifact_is_lower Wide behind small ws after items m wide r le =
     edifact_lower (parts_cost (before_words behind)) (owes_edifact behind) (are_edifact_costs behind small) ws after
     items m r le
 
--- No parts are shorter than the cost of their items.
-pub no_fewer : (extent : Extent) (place : ℕ) (words : List ℕ) (items : List Item) → AreParts extent place words items
-    → parts_cost (at_end extent) items ≤ length words
-no_fewer extent place words items parts =
-    let s = at_end extent in
-    let small : 0 ≤ never = omega arith in
-    parts_lower (parts_cost s) (owes s) (are_costs s small) extent (edifact_is_lower extent 0 small) place words items
-    parts (omega (arith, nothing_costs s))
-
 -- A part has no fewer codewords than its items add to the cost of what follows them in a text that so many codewords
 -- follow.
-pub part_no_fewer : (behind place : ℕ) (words after : List ℕ) (items m : List Item) → behind ≤ never
-    → IsPart Wide place words after items → parts_cost (before_words behind) m ≤ length after
-    → parts_cost (before_words behind) (items ++ m) ≤ length words + length after
-part_no_fewer behind place words after items m small p le =
-    let s = before_words behind in
-    part_lower (parts_cost s) (owes s) (are_costs s small) Wide (edifact_is_lower Wide behind small) place words after
-    items m p le
-
--- No words that spell a message, and have no macro before FNC1, are fewer than its least cost.
-pub no_fewer_words : (extent : Extent) (words : List ℕ) (m : List Item) (cost : ℕ) → IsLeastCost extent m cost
-    → FramesNoFnc1 words m → Spells extent words m → cost ≤ length words
-no_fewer_words extent words m cost least framed s = by (spelled_has extent words m s) where
-  by : HasMessage extent words m → cost ≤ length words
-  by (in_parts a) = omega (arith, least.parts, no_fewer extent 1 words m a)
-  by (in_frame first more digit text wide f e a is) =
-      let begins : BeginsFrame words =
-      record { first = first; digit = digit; more = more; is_frame = f; whole = e } in
-      omega (
-        arith,
-        least.macros f.word digit text wide f.is_macro is (λ fnc1. framed (digit, text, is, fnc1) begins),
-        no_fewer extent (1 + length first) more text a,
-        ap length e,
-        length-append first more,
-        ap length f.whole,
-        length-append f.runs (f.word ∷ []),
-      )
+pub part_no_fewer : (extent : Extent) (behind place : ℕ) (words after : List ℕ) (items m : List Item) → behind ≤ never
+    → let setting : Setting = record { extent = extent; behind = behind } in IsPart extent place words after items
+    → parts_cost setting m ≤ length after → parts_cost setting (items ++ m) ≤ length words + length after
+part_no_fewer extent behind place words after items m small p le =
+    let s : Setting = record { extent = extent; behind = behind } in
+    part_lower (parts_cost s) (owes s) (are_costs s small) extent (edifact_is_lower extent behind small) place words
+    after items m p le

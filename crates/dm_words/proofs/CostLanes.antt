@@ -1,6 +1,6 @@
 -- The costs that lie in lanes are those of the definition.
-use Rattle.dm_words.proofs.Names.{◌++◌, ◌≡◌, ◌⊎◌, inl, inr, ℕ, zero, suc, ◌+◌, ◌-◌, ◌^◌, ◌<◌, ◌≤◌, get_or, List, refl}
-use Rattle.dm_words.proofs.Names.{sym, ap, subst, ◌∙◌, arith, Bool, true, false, cond, eqb, length, replicate, w16, []}
+use Rattle.dm_words.proofs.Names.{◌++◌, ◌≡◌, ◌⊎◌, ℕ, ◌+◌, ◌-◌, ◌^◌, ◌<◌, ◌≤◌, get_or, List, refl}
+use Rattle.dm_words.proofs.Names.{ap, ◌∙◌, arith, Bool, true, false, cond, eqb, length, replicate, w16, []}
 use Rattle.dm_words.proofs.Names.{◌∷◌, ◌&&◌, map, nat_eq, nat_le, not, sel_l, top, zip2, length-map, tops_compared, min}
 use Rattle.dm_words.proofs.Names.{nat_tests, Extent, Usual, Wide, Item, Byte, Fnc1, C40, Text, X12, Costs, Pairs}
 use Rattle.dm_words.proofs.Names.{Groups, Going, Row, is_basic, set_values, has_edifact, stay, stay_edifact}
@@ -13,103 +13,62 @@ use Rattle.std.proofs.lemmas.Simd.{map-map, zip2_splat, zip2_splat_left}
 use Rattle.dm_words.specs.declared.smallest.sets.TheConstants.{SETS}
 use Rattle.dm_words.specs.declared.smallest.row.GoingCosts.{GoingCosts}
 use Rattle.dm_words.specs.inner.CostLanes.{byte_sets, read_bits, read_edifact, one_or_two, set_bits, first_lanes}
-use Rattle.dm_words.specs.inner.CostLanes.{second_lanes, AreFirst, AreNext, AreSecond, HasGoing, end_lanes, cost_lanes}
+use Rattle.dm_words.specs.inner.CostLanes.{second_lanes, AreFirst, AreSecond, HasGoing, end_lanes, cost_lanes}
 
 -- ---- a byte
-
-stay_low : (b : Bool) (p : Pairs) → values_before (one_or_two b) p ≡ stay (one_or_two b) p
-stay_low true p = refl
-stay_low false p = refl
-
-stay_raised : (b : Bool) (p : Pairs) → values_before (one_or_two b) (values_before 2 p) ≡ stay (2 + one_or_two b) p
-stay_raised true p = refl
-stay_raised false p = refl
 
 -- The lanes of a byte below 128.
 pub first_low : (byte : ℕ) (c t : Pairs) (bytes rest : ℕ) (lanes : List ℕ) → byte < 128
     → lanes ≡ first_lanes (values_before (one_or_two (is_basic C40 byte)) c)
     (values_before (one_or_two (is_basic Text byte)) t) bytes rest
     → lanes ≡ first_lanes (stay (set_values C40 (Byte byte)) c) (stay (set_values Text (Byte byte)) t) bytes rest
-first_low byte c t bytes rest lanes low is = grind (arith, nat_tests, set_values, one_or_two, is_basic, stay_low)
+first_low byte c t bytes rest lanes low is = grind (arith, nat_tests, set_values, one_or_two, is_basic)
 
 -- The lanes of a byte from 128 on.
 pub first_high : (byte : ℕ) (c t : Pairs) (bytes rest : ℕ) (lanes : List ℕ) → 128 ≤ byte
     → lanes ≡ first_lanes (values_before (one_or_two (is_basic C40 (byte - 128))) (values_before 2 c))
     (values_before (one_or_two (is_basic Text (byte - 128))) (values_before 2 t)) bytes rest
     → lanes ≡ first_lanes (stay (set_values C40 (Byte byte)) c) (stay (set_values Text (Byte byte)) t) bytes rest
-first_high byte c t bytes rest lanes high is = grind (arith, nat_tests, set_values, one_or_two, is_basic, stay_raised)
+first_high byte c t bytes rest lanes high is = grind (arith, nat_tests, set_values, one_or_two, is_basic)
 
 -- Two values more leave the costs below what they may be.
-pub raised_next : (c t : Pairs) (bytes rest : ℕ) (lanes raised : List ℕ) → AreNext c t bytes rest lanes
+pub raised_next : (c t : Pairs) (bytes rest : ℕ) (lanes raised : List ℕ) → AreFirst 39990 c t bytes rest lanes
     → raised ≡ first_lanes (values_before 2 c) (values_before 2 t) bytes rest
-    → AreFirst (values_before 2 c) (values_before 2 t) bytes rest raised
-raised_next c t bytes rest lanes raised h is = record {
-  are = is;
-  c40 = (omega (arith, h.c40.2), omega (arith, h.c40.0), omega (arith, h.c40.1));
-  text = (omega (arith, h.text.2), omega (arith, h.text.0), omega (arith, h.text.1));
-  bytes_most = omega (arith, h.bytes_most);
-  rest_most = omega (arith, h.rest_most);
-}
+    → AreFirst 40000 (values_before 2 c) (values_before 2 t) bytes rest raised
+raised_next c t bytes rest lanes raised h is = grind (arith, nat_tests)
 
-pub next_first : (c t : Pairs) (bytes rest : ℕ) (lanes : List ℕ) → AreNext c t bytes rest lanes
-    → AreFirst c t bytes rest lanes
-next_first c t bytes rest lanes h = record {
-  are = h.are;
-  c40 = (omega (arith, h.c40.0), omega (arith, h.c40.1), omega (arith, h.c40.2));
-  text = (omega (arith, h.text.0), omega (arith, h.text.1), omega (arith, h.text.2));
-  bytes_most = omega (arith, h.bytes_most);
-  rest_most = omega (arith, h.rest_most);
-}
+pub next_first : (c t : Pairs) (bytes rest : ℕ) (lanes : List ℕ) → AreFirst 39990 c t bytes rest lanes
+    → AreFirst 40000 c t bytes rest lanes
+next_first c t bytes rest lanes h = grind (arith, nat_tests)
 
 -- The second lanes of a byte.
 pub second_byte : (extent : Extent) (byte : ℕ) (x : Pairs) (e : Groups) (lanes : List ℕ)
     → lanes ≡ second_lanes (stay (cond (is_basic X12 byte) 1 0) x)
     (stay_edifact (read_edifact extent (nat_le 32 byte && nat_le byte 94)) e)
     → lanes ≡ second_lanes (stay (set_values X12 (Byte byte)) x) (stay_edifact (has_edifact extent (Byte byte)) e)
-second_byte Wide byte x e lanes is = is
-second_byte Usual byte x e lanes is = is
+second_byte extent byte x e lanes h1 = grind (arith, nat_tests)
 
 -- ---- a row
 
 -- The first costs of a row are below what they may be.
 pub row_next : (r : Row) (costs : Costs) → IsWithin 3200 r → HasRow r costs
-    → AreNext r.c40 r.text (min r.ascii r.segment.bytes) r.segment.rest costs.first
-row_next r costs w h = record {
-  are = h.first;
-  c40 = (omega (arith, w.c40.0), omega (arith, w.c40.1), omega (arith, w.c40.2));
-  text = (omega (arith, w.text.0), omega (arith, w.text.1), omega (arith, w.text.2));
-  bytes_most = omega (arith, w.bytes);
-  rest_most = omega (arith, w.rest);
-}
+    → AreFirst 39990 r.c40 r.text (min r.ascii r.segment.bytes) r.segment.rest costs.first
+row_next r costs w h = grind (arith, nat_tests)
 
 -- So are the second ones.
 pub row_second : (r : Row) (costs : Costs) → IsWithin 3200 r → HasRow r costs
     → AreSecond r.x12 r.edifact costs.second
-row_second r costs w h = record {
-  are = h.others;
-  x12 = (omega (arith, w.x12.0), omega (arith, w.x12.1), omega (arith, w.x12.2));
-  edifact = (
-    omega (arith, w.edifact.0),
-    omega (arith, w.edifact.1),
-    omega (arith, w.edifact.2),
-    omega (arith, w.edifact.3),
-  );
-}
+row_second r costs w h = grind (arith, nat_tests)
 
 -- One byte more is in a segment.
 pub near_more : (t : Bool) (near : ℕ) → 1 + cond t 0 near ≡ cond t 1 (1 + near)
-near_more true near = refl
-near_more false near = refl
+near_more t near = grind (arith, nat_tests)
 
 -- Over FNC1 runs of C40 and Text go on alone.
 pub over_fnc1 : (extent : Extent) (item : Item) (r : Row) (going : GoingCosts) → item ≡ Fnc1
     → going.first ≡ first_lanes (values_before 2 r.c40) (values_before 2 r.text) never never
     → going.second ≡ second_lanes no_pairs no_groups → going.near ≡ 0 → HasGoing (going_over extent item r) going
-over_fnc1 extent item r going is first others near =
-    let P : Item → Type 0 = λ i. HasGoing (going_over extent i r) going in subst P (sym is) (in_extent extent) where
-      in_extent : (extent : Extent) → HasGoing (going_over extent Fnc1 r) going
-      in_extent Wide = record { first = first; others = others; near = near }
-      in_extent Usual = record { first = first; others = others; near = near }
+over_fnc1 extent item r going is first others near = grind (arith, nat_tests, going_over)
 
 -- Over a byte they all may go on.
 pub over_byte : (extent : Extent) (item : Item) (byte : ℕ) (r : Row) (next : Costs) (going : GoingCosts)
@@ -119,13 +78,7 @@ pub over_byte : (extent : Extent) (item : Item) (byte : ℕ) (r : Row) (next : C
     → going.second ≡ second_lanes (stay (set_values X12 (Byte byte)) r.x12)
     (stay_edifact (has_edifact extent (Byte byte)) r.edifact)
     → going.near ≡ 1 + next.near → HasGoing (going_over extent item r) going
-over_byte extent item byte r next going is h first others near =
-    let P : Item → Type 0 = λ i. HasGoing (going_over extent i r) going in
-    subst P (sym is) (record {
-      first = first;
-      others = others;
-      near = near ∙ ap (λ (n : ℕ). 1 + n) h.near ∙ near_more (nat_le r.ascii r.segment.bytes) r.segment.near;
-    })
+over_byte extent item byte r next going is h first others near = grind (arith, nat_tests, going_over, near_more, nat_le)
 
 -- ---- lanes by sets
 
@@ -144,8 +97,7 @@ told_lanes xs long =
 pub with_lane_is : (lane lanes : List ℕ) (number : ℕ) → length lane ≡ 8
     → sel_l (map (top 15) (zip2 (λ a b. cond (not (eqb a b)) 65535 0) lane (replicate 8 0))) (replicate 8 number) lanes
     ≡ sel_l (map (λ n. not (eqb n 0)) lane) (replicate 8 number) lanes
-with_lane_is lane lanes number long =
-    ap (λ (ms : List Bool). sel_l ms (replicate 8 number) lanes) (told_lanes lane long)
+with_lane_is lane lanes number long = grind (arith, nat_tests, sel_l, replicate, told_lanes)
 
 -- A comparison of the bits that are shared with 0 tells these lanes.
 pub by_sets_is : (sets : ℕ) (bits inside outside : List ℕ) → length bits ≡ 8
@@ -281,14 +233,11 @@ lane_costs item pair next g k costs cost small are is = cc (cost_at item pair ne
 
 -- The place behind which none is taken is the first one.
 pub first_begin : (n : ℕ) → (0 < n → ⊥) → begin_at n ≡ begin_at 0
-first_begin zero none = refl
-first_begin (suc n) none = absurd (none (omega arith))
+first_begin n h1 = grind (arith, nat_tests)
 
 -- Or the second one.
 pub second_begin : (n : ℕ) → (1 < n → ⊥) → (begin_at n ≡ begin_at 1) ⊎ (begin_at n ≡ begin_at 0)
-second_begin zero none = inr refl
-second_begin (suc zero) none = inl refl
-second_begin (suc (suc n)) none = absurd (none (omega arith))
+second_begin n h1 = grind (arith, nat_tests)
 
 -- The last lane of all costs is 0.
 pub last_zero : (g : Going) (costs : GoingCosts) → HasGoing g costs → get_or (costs.first ++ costs.second) 15 0 ≡ 0

@@ -1,11 +1,11 @@
 -- The costs of the definition obey the rules.
 use Rattle.dm_words.proofs.Names.{◌≡◌, ◌⊎◌, inl, inr, ℕ, zero, suc, ◌+◌, ◌*◌, ◌/◌, ◌%◌, ◌<◌, ◌≤◌, List, [], ◌∷◌, ◌++◌}
-use Rattle.dm_words.proofs.Names.{length, refl, ap, ◌∙◌, arith, Bool, true, false, cond, ltb, nat_le, ◌&&◌, ◌==◌, min}
-use Rattle.dm_words.proofs.Names.{cases_lt, nat_tests, Item, Byte, Fnc1, CodeSet, C40, Text, X12, Pairs, Going, Row}
-use Rattle.dm_words.proofs.Names.{Begin, One, Two, Run, Segment, Rest, is_digit, byte_items, never, unit_cost}
+use Rattle.dm_words.proofs.Names.{length, refl, ap, arith, Bool, true, cond, ltb, nat_le, ◌&&◌, min}
+use Rattle.dm_words.proofs.Names.{cases_lt, nat_tests, Item, Byte, CodeSet, C40, Text, X12, Pairs, Going, Row}
+use Rattle.dm_words.proofs.Names.{Begin, One, Two, Run, Rest, is_digit, byte_items, never, unit_cost}
 use Rattle.dm_words.proofs.Names.{set_values, values_before, stay, leave, or_leave, is_digit_item, digit_first}
 use Rattle.dm_words.proofs.Names.{segment_cost, going_over, cost_of, least, parts_cost, Setting}
-use Rattle.dm_words.specs.inner.Costs.{owed, value_before, row_before, row}
+use Rattle.dm_words.specs.inner.Costs.{owed, value_before, row, row_pairs}
 use Rattle.dm_words.proofs.LowerBounds.{leave_bounds, AreCosts}
 
 -- ---- what is owed in a run
@@ -19,9 +19,7 @@ owed_value (suc (suc (suc r))) p = ap (λ (n : ℕ). 2 + n) (owed_value r p)
 
 pub owed_values : (k r : ℕ) (p : Pairs) → owed r (values_before k p) ≡ owed (r + k) p
 owed_values zero r p = let e : r + 0 ≡ r = omega arith in rw e refl
-owed_values (suc k) r p =
-    let e : suc r + k ≡ r + suc k = omega arith in
-    owed_value r (values_before k p) ∙ owed_values k (suc r) p ∙ ap (λ (n : ℕ). owed n p) e
+owed_values (suc k) r p = grind (arith, nat_tests, owed_value, values_before, owed, owed_values k (suc r) p)
 
 owed_whole : (q : ℕ) (p : Pairs) → owed (3 * q) p ≡ 2 * q + p.none
 unfolding owed
@@ -46,16 +44,9 @@ or_leave_most : (cost : ℕ) (going : Pairs) → AtMost (or_leave cost going) go
 or_leave_most cost going = (omega arith, omega arith, omega arith)
 
 pub stay_is : (k : ℕ) (next : Pairs) → 0 < k → stay k next ≡ values_before k next
-stay_is zero next some = absurd (omega (arith, some))
-stay_is (suc k) next some = let e : (suc k == 0) ≡ false = grind (arith, nat_tests) in rw e refl
+stay_is k next h1 = grind (arith, nat_tests)
 
 -- ---- the row
-
--- The costs of a run of a set.
-abbrev pub pairs_of : CodeSet → Row → Pairs
-pairs_of C40 r = r.c40
-pairs_of Text r = r.text
-pairs_of X12 r = r.x12
 
 -- The least is at most each.
 pub is_least : (item : Item) (pair : Bool) (next : Row) (going : Going) (begin : Begin)
@@ -65,15 +56,10 @@ is_least item pair next going begin = grind (arith, nat_tests)
 module _ (setting : Setting) where
   -- The costs where runs go on over an item.
   abbrev pub going : CodeSet → Item → List Item → Pairs
-  going set x m = stay (set_values set x) (pairs_of set (row setting m))
+  going set x m = stay (set_values set x) (row_pairs set (row setting m))
 
   abbrev pub is_pair : Item → List Item → Bool
   is_pair x m = is_digit_item x && digit_first m
-
-  -- The row of an item and what follows.
-  row_is : (x : Item) (m : List Item) → row setting (x ∷ m) ≡ row_before setting.extent x (is_pair x m) (row setting m)
-  unfolding row
-  row_is x m = refl
 
   pub least_is : (x : Item) (m : List Item) (begin : Begin)
       → parts_cost setting (x ∷ m)
@@ -82,15 +68,13 @@ module _ (setting : Setting) where
   least_is x m begin = is_least x (is_pair x m) (row setting m) (going_over setting.extent x (row setting m)) begin
 
   -- The costs of a run are those of going on, or of leaving.
-  pub pairs_is : (set : CodeSet) (x : Item) (m : List Item) → pairs_of set (row setting (x ∷ m))
+  pub pairs_is : (set : CodeSet) (x : Item) (m : List Item) → row_pairs set (row setting (x ∷ m))
       ≡ or_leave (parts_cost setting (x ∷ m)) (going set x m)
   unfolding row
-  pairs_is C40 x m = refl
-  pairs_is Text x m = refl
-  pairs_is X12 x m = refl
+  pairs_is set x m = grind (arith, nat_tests)
 
   -- A run that ends costs no more than leaving it.
-  pairs_leave : (set : CodeSet) (m : List Item) → (pairs_of set (row setting m)).none ≤ leave 1 (parts_cost setting m)
+  pairs_leave : (set : CodeSet) (m : List Item) → (row_pairs set (row setting m)).none ≤ leave 1 (parts_cost setting m)
   unfolding row
   pairs_leave C40 [] = omega arith
   pairs_leave Text [] = omega arith
@@ -104,7 +88,7 @@ module _ (setting : Setting) where
 
   -- What a run of a set owes from here on.
   abbrev pub owes : CodeSet → ℕ → List Item → ℕ
-  owes set r m = owed r (pairs_of set (row setting m))
+  owes set r m = owed r (row_pairs set (row setting m))
 
   -- Behind the last item the cost is that of what follows.
   pub nothing_costs : parts_cost setting [] ≡ setting.behind
@@ -113,9 +97,7 @@ module _ (setting : Setting) where
 
   none_begins : (set : CodeSet) → setting.behind ≤ never → parts_cost setting [] ≤ 1 + owes set 0 []
   unfolding owed row
-  none_begins C40 small = omega (arith, small, (leave_bounds 1 setting.behind).0)
-  none_begins Text small = omega (arith, small, (leave_bounds 1 setting.behind).0)
-  none_begins X12 small = omega (arith, small, (leave_bounds 1 setting.behind).0)
+  none_begins set h1 = grind (arith, nat_tests, leave_bounds)
 
   pub begins : setting.behind ≤ never → (set : CodeSet) (m : List Item) → parts_cost setting m ≤ 1 + owes set 0 m
   unfolding owed
@@ -127,17 +109,17 @@ module _ (setting : Setting) where
       → owes set r (x ∷ m) ≤ owes set (r + set_values set x) m
   goes set r x m some =
       let k = set_values set x in
-      let next = pairs_of set (row setting m) in
+      let next = row_pairs set (row setting m) in
       let most =
       owed_most r (or_leave (parts_cost setting (x ∷ m)) (going set x m)) (going set x m)
       (or_leave_most (parts_cost setting (x ∷ m)) (going set x m)) in
-      let here : owed r (pairs_of set (row setting (x ∷ m)))
+      let here : owed r (row_pairs set (row setting (x ∷ m)))
       ≡ owed r (or_leave (parts_cost setting (x ∷ m)) (going set x m)) = ap (owed r) (pairs_is set x m) in
       let stays : owed r (going set x m) ≡ owed (r + k) next = cc (stay_is k next some, owed_values k r next) in
       omega (arith, most, here, stays)
 
   ends : (set : CodeSet) (q : ℕ) (m : List Item) → owes set (3 * q) m ≤ 2 * q + leave 1 (parts_cost setting m)
-  ends set q m = omega (arith, owed_whole q (pairs_of set (row setting m)), pairs_leave set m)
+  ends set q m = omega (arith, owed_whole q (row_pairs set (row setting m)), pairs_leave set m)
 
   -- ---- segments
 
@@ -172,54 +154,21 @@ module _ (setting : Setting) where
   pub near_cases : (b : ℕ) (m : List Item)
       → ((parts_cost setting m ≤ bytes_cost m) × (near_of (Byte b ∷ m) ≡ 1)) ⊎
       ((bytes_cost m < parts_cost setting m) × (near_of (Byte b ∷ m) ≡ 1 + near_of m))
-  near_cases b m = by_test (nat_le (parts_cost setting m) (bytes_cost m)) refl where
-    by_test : (t : Bool) → nat_le (parts_cost setting m) (bytes_cost m) ≡ t
-        → ((parts_cost setting m ≤ bytes_cost m) × (near_of (Byte b ∷ m) ≡ 1)) ⊎
-        ((bytes_cost m < parts_cost setting m) × (near_of (Byte b ∷ m) ≡ 1 + near_of m))
-    by_test true e = inl (
-      (let le : parts_cost setting m ≤ bytes_cost m = grind (arith, nat_tests) in le),
-      near_is b m
-          ∙ (rw e refl),
-    )
-    by_test false e = inr (
-      (let lt : bytes_cost m < parts_cost setting m = grind (arith, nat_tests) in lt),
-      near_is b m
-          ∙ (rw e refl),
-    )
+  near_cases b m = grind (arith, nat_tests, nat_le, parts_cost, bytes_cost, near_of, near_is)
 
   -- A segment of some bytes costs at least this, and more before the place that is near.
   near : (b : ℕ) (bs : List ℕ) (m : List Item)
       → (bytes_cost (byte_items (b ∷ bs) ++ m) ≤ length (b ∷ bs) + parts_cost setting m)
       × (length (b ∷ bs) < near_of (byte_items (b ∷ bs) ++ m)
       → bytes_cost (byte_items (b ∷ bs) ++ m) < length (b ∷ bs) + parts_cost setting m)
-  near b [] m =
-      elim (near_cases b m) [
-        | inl c ↦ (omega (arith, bytes_is b m), λ lt. absurd (omega (arith, lt, c.1)))
-        | inr c ↦ (omega (arith, bytes_is b m), λ lt. omega (arith, bytes_is b m, c.0))
-      ]
-  near b (d ∷ bs) m =
-      let n = byte_items (d ∷ bs) ++ m in
-      let h = near d bs m in
-      elim (near_cases b n) [
-        | inl c ↦ (omega (arith, bytes_is b n, h.0), λ lt. absurd (omega (arith, lt, c.1)))
-        | inr c ↦ (
-          omega (arith, bytes_is b n, h.0),
-          λ lt. (let l = h.1 (omega (arith, lt, c.1)) in omega (arith, bytes_is b n, l)),
-        )
-      ]
+  near b [] m = grind (arith, nat_tests, near_cases, bytes_is)
+  near b (d ∷ bs) m = grind (arith, nat_tests, byte_items, near_cases, bytes_is, near d bs m)
 
   segment_most : (b : ℕ) (m : List Item)
       → (parts_cost setting (Byte b ∷ m) ≤ 3 + bytes_cost (Byte b ∷ m)) × (near_of (Byte b ∷ m) ≤ 249
       → parts_cost setting (Byte b ∷ m) ≤ 2 + bytes_cost (Byte b ∷ m))
   unfolding row
-  segment_most b m = by_test (nat_le (near_of (Byte b ∷ m)) 249) refl (least_is (Byte b) m Segment) where
-    by_test : (t : Bool) → nat_le (near_of (Byte b ∷ m)) 249 ≡ t
-        → parts_cost setting (Byte b ∷ m) ≤ cond t (2 + bytes_cost (Byte b ∷ m)) (3 + bytes_cost (Byte b ∷ m))
-        → (parts_cost setting (Byte b ∷ m) ≤ 3 + bytes_cost (Byte b ∷ m)) × (near_of (Byte b ∷ m) ≤ 249
-        → parts_cost setting (Byte b ∷ m) ≤ 2 + bytes_cost (Byte b ∷ m))
-    by_test true e le = (omega (arith, le), λ few. le)
-    by_test false e le =
-        (le, λ few. absurd (let lt : 249 < near_of (Byte b ∷ m) = grind (arith, nat_tests) in omega (arith, lt, few)))
+  segment_most b m = grind (arith, nat_tests, nat_le, near_of, least_is, parts_cost, cond, bytes_cost)
 
   any_segment : (bytes : List ℕ) (m : List Item) → 0 < length bytes
       → parts_cost setting (byte_items bytes ++ m) ≤ 3 + length bytes + parts_cost setting m
@@ -238,26 +187,7 @@ module _ (setting : Setting) where
 
   -- Whatever there is costs something.
   some_least : (x : Item) (is_two : Bool) (next : Row) (g : Going) → 0 < least x is_two next g
-  some_least x is_two next g =
-      by_tests (some_unit x) (some_pair is_two) (some_segment (nat_le g.segment.near 249)) where
-        some_unit : (x : Item) → 0 < unit_cost x
-        some_unit Fnc1 = omega arith
-        some_unit (Byte b) = by_test (ltb b 128) where
-          by_test : (t : Bool) → 0 < cond t 1 2
-          by_test true = omega arith
-          by_test false = omega arith
-
-        some_pair : (t : Bool) → 0 < cond t (1 + next.second) never
-        some_pair true = omega arith
-        some_pair false = omega arith
-
-        some_segment : (t : Bool) → 0 < cond t (2 + g.segment.bytes) (3 + g.segment.bytes)
-        some_segment true = omega arith
-        some_segment false = omega arith
-
-        by_tests : 0 < unit_cost x → 0 < cond is_two (1 + next.second) never
-            → 0 < segment_cost g.segment.bytes g.segment.near → 0 < least x is_two next g
-        by_tests a b c = omega (arith, a, b, c)
+  some_least x is_two next g = grind (arith, nat_tests, nat_le, unit_cost, ltb, cond, never, segment_cost, least)
 
   some_cost : (x : Item) (m : List Item) → 0 < parts_cost setting (x ∷ m)
   unfolding row

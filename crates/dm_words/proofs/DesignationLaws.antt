@@ -1,10 +1,10 @@
 -- Codewords have one list of designators, whose numbers are those of the marks of the content that they say.
 use Rattle.dm_words.proofs.Names.{◌≡◌, ℕ, ◌+◌, List, [], ◌∷◌, ◌++◌, length, drop, map, refl, sym, ap, subst, ◌∙◌}
-use Rattle.dm_words.proofs.Names.{append_assoc, Option, Some, None, drop_at, Wide, Mark, Opened, Piece, spelled, whats}
-use Rattle.dm_words.proofs.Names.{AreJoined, ContentView, Says, Said, Items, Number, IsContentPart, said_content}
-use Rattle.dm_words.proofs.Names.{said_marks, opening_items, AreOpened, AreContentParts, Opening, IsEnd, designation}
-use Rattle.dm_words.proofs.Names.{designations, AreDesignations, of_content, of_refused, Takes, Stops}
-use Rattle.dm_words.proofs.Names.{first_content_part}
+use Rattle.dm_words.proofs.Names.{append_assoc, Option, Some, None, drop_at, Wide, Mark, Opened, Piece, spelled}
+use Rattle.dm_words.proofs.Names.{whats, AreJoined, ContentView, Says, Said, Items, Number, IsContentPart}
+use Rattle.dm_words.proofs.Names.{said_content, said_marks, opening_items, AreOpened, AreContentParts, Opening, IsEnd}
+use Rattle.dm_words.proofs.Names.{designation, designations, AreDesignations, of_content, of_refused, Takes}
+use Rattle.dm_words.proofs.Names.{first_content_part, arith, nat_tests}
 use Rattle.dm_words.proofs.ContentParts.{content_part_complete, content_end_complete}
 use Rattle.dm_words.proofs.WholeContents.{opens_so}
 use Rattle.dm_words.proofs.ContentResults.{said_not_refused}
@@ -16,19 +16,9 @@ same_designations : (before place : ℕ) (ps qs : List (Piece Said)) (words afte
     → designations before ps ≡ designations before qs
 same_designations before place [] [] words after rest one other joined with_other ended end = refl
 same_designations before place [] (q ∷ qs) words after rest one other joined with_other ended end =
-    let stops : first_content_part Wide place words ≡ Stops None = cc (content_end_complete Wide place after ended) in
-    let takes : first_content_part Wide place words ≡ Takes (length q.words) q.what = cc (
-      append_assoc q.words (spelled qs) rest,
-      (content_part_complete Wide place q.words (spelled qs ++ rest) q.what with_other.0).0,
-    ) in
-    absurd cc
+    grind (arith, nat_tests, first_content_part, content_end_complete, append_assoc, spelled, content_part_complete)
 same_designations before place (p ∷ ps) [] words after rest one other joined with_other ended end =
-    let stops : first_content_part Wide place words ≡ Stops None = cc (content_end_complete Wide place rest end) in
-    let takes : first_content_part Wide place words ≡ Takes (length p.words) p.what = cc (
-      append_assoc p.words (spelled ps) after,
-      (content_part_complete Wide place p.words (spelled ps ++ after) p.what joined.0).0,
-    ) in
-    absurd cc
+    grind (arith, nat_tests, first_content_part, content_end_complete, append_assoc, spelled, content_part_complete)
 same_designations before place (p ∷ ps) (q ∷ qs) words after rest one other joined with_other ended end =
     let first = one ∙ append_assoc p.words (spelled ps) after in
     let second = other ∙ append_assoc q.words (spelled qs) rest in
@@ -55,15 +45,7 @@ opening_length (Some opened) = opened.count
 says_so : {words more : List ℕ} {opening : Opening} {place : ℕ} {said : List Said}
     → AreOpened Wide words opening place more → AreContentParts Wide place more said
     → Says Wide words (said_content opening said)
-says_so {more = more} {opening = opening} {place = place} {said = said} opened parts = record {
-  opening = opening;
-  place = place;
-  more = more;
-  opened = opened;
-  said = said;
-  parts = parts;
-  content_is = refl;
-}
+says_so {more = more} {opening = opening} {place = place} {said = said} opened parts = grind (arith, nat_tests)
 
 -- Codewords have one list of designators.
 pub one_list : (words : List ℕ) (found other : List Mark) → AreDesignations words found → AreDesignations words other

@@ -2,48 +2,26 @@
 use Rattle.dm_words.proofs.Names.{◌≡◌, ◌≢◌, ℕ, ◌+◌, ◌*◌, ◌<◌, ◌≤◌, List, [], ◌∷◌, ◌++◌, length, take, drop, refl, sym}
 use Rattle.dm_words.proofs.Names.{ap, subst, ◌∙◌, append_assoc, arith, length-append, get_or, Option, Some, None}
 use Rattle.dm_words.proofs.Names.{Result, Ok, Err, append-nil, drop_at, length-drop, length-take, drop-drop}
-use Rattle.dm_words.proofs.Names.{take-append-drop, Wide, Designator, ContentFault, Mark, Opened, Piece, spelled, whats}
-use Rattle.dm_words.proofs.Names.{AreJoined, ContentView, Says, Said, Number, IsContentPart, AreContentParts}
+use Rattle.dm_words.proofs.Names.{take-append-drop, Wide, Designator, ContentFault, Mark, Opened, Piece, spelled}
+use Rattle.dm_words.proofs.Names.{whats, AreJoined, ContentView, Says, Said, Number, IsContentPart, AreContentParts}
 use Rattle.dm_words.proofs.Names.{HaveContentFault, IsOpening, AreOpened, no_head, behind, designation, designations}
 use Rattle.dm_words.proofs.Names.{AreDesignations, of_content, of_refused, Stops, opened, mark_by, first_content_part}
-use Rattle.dm_words.proofs.Names.{content_of}
+use Rattle.dm_words.proofs.Names.{content_of, nat_tests}
 use Rattle.std.proofs.lemmas.List.{get_or_append_left, get_or-append-add}
 use Rattle.dm_words.specs.inner.ContentsAt.{IsDesignationTaken}
 use Rattle.dm_words.proofs.Pairs.{IsBytes, IsBytes-drop}
-use Rattle.dm_words.proofs.Pieces.{spelled-last}
+use Rattle.dm_words.proofs.Pieces.{joined-last, spelled-last}
 use Rattle.dm_words.proofs.Openings as openings
 use Rattle.dm_words.proofs.Openings.{OpeningJudged}
 use Rattle.dm_words.proofs.ContentParts.{content_part_sound, content_end_sound, content_fault_sound}
 use Rattle.dm_words.proofs.ContentLoops.{HasRoom, room_by}
 use Rattle.dm_words.proofs.WholeContents.{reads}
 
--- Parts that are joined before another one are joined with it.
-joined-last : (place : ℕ) (pieces : List (Piece Said)) (words after : List ℕ) (said : Said)
-    → AreJoined (IsContentPart Wide) place pieces (words ++ after)
-    → IsContentPart Wide (place + length (spelled pieces)) words after said
-    → AreJoined (IsContentPart Wide) place
-    (pieces ++ (let q : Piece Said = record { words = words; what = said } in q) ∷ []) after
-joined-last place [] words after said joined right = (
-  subst (λ (k : ℕ). IsContentPart Wide k words after said) (omega arith) right,
-  tt,
-)
-joined-last place (p ∷ ps) words after said joined right =
-    let q : Piece Said = record { words = words; what = said } in
-    let whole : spelled ps ++ (words ++ after) ≡ spelled (ps ++ q ∷ []) ++ after =
-    sym (append_assoc (spelled ps) words after) ∙ ap (λ (l : List ℕ). l ++ after) (sym (spelled-last ps q)) in
-    let there : place + length (p.words ++ spelled ps) ≡ (place + length p.words) + length (spelled ps) =
-    omega (arith, length-append p.words (spelled ps)) in (
-      subst (λ (rest : List ℕ). IsContentPart Wide place p.words rest p.what) whole joined.0,
-      joined-last (place + length p.words) ps words after said joined.1 (rw there at right),
-    )
-
 -- The designators of parts, and of one behind them.
 designations-last : (before : ℕ) (pieces : List (Piece Said)) (q : Piece Said)
     → designations before (pieces ++ q ∷ []) ≡ designations before pieces
     ++ designation (before + length (spelled pieces)) q.what
-designations-last before [] q =
-    let here : before + 0 ≡ before = omega arith in
-    append-nil (designation before q.what) ∙ ap (λ (k : ℕ). designation k q.what) (sym here)
+designations-last before [] q = grind (arith, nat_tests, append-nil, designation)
 designations-last before (p ∷ ps) q =
     grind (arith, length-append, append_assoc, designations-last (before + length p.words) ps q)
 
@@ -57,8 +35,7 @@ pub record AreTaken (words : List ℕ) (start at : ℕ) (found : List Mark) : Ty
 
 -- Before the first part none is taken.
 pub none_taken : (words : List ℕ) (start : ℕ) (found : List Mark) → found ≡ [] → AreTaken words start start found
-none_taken words start found e =
-    record { pieces = []; whole = refl; joined = tt; long = omega arith; found_is = e }
+none_taken words start found e = grind (arith, nat_tests)
 
 -- After a turn of the loop that takes a part, this is known.
 pub record Leaves (words : List ℕ) (start at n : ℕ) (found : List Mark) : Type 0 where
@@ -88,7 +65,7 @@ goes_on words start at n old new fit in_range few t took =
     let cut : take n (drop at words) ++ drop n (drop at words) ≡ drop at words = take-append-drop n (drop at words) in
     let rest : drop n (drop at words) ≡ drop (at + n) words = drop-drop n at words in
     let place : at + 1 ≡ (start + 1) + length (spelled t.pieces) = omega (arith, t.long) in
-    let joined = joined-last (start + 1) t.pieces (take n (drop at words)) (drop n (drop at words)) said
+    let joined = joined-last (IsContentPart Wide) (start + 1) t.pieces q (drop n (drop at words))
     (rw (sym cut) at t.joined) (rw place at r.0) in
     record {
       in_range = omega (arith, r.2, length-drop at words);
@@ -195,12 +172,10 @@ HaveNoEci words = (i : ℕ) → i < length words → get_or words i 0 ≢ 241
 
 -- Neither is one of the first, nor one of the others.
 no_eci_before : (a b : List ℕ) → HaveNoEci (a ++ b) → HaveNoEci a
-no_eci_before a b none i lt e =
-    none i (omega (arith, lt, length-append a b)) (get_or_append_left a b 0 i lt ∙ e)
+no_eci_before a b none i lt e = grind (arith, nat_tests, length-append, get_or_append_left)
 
 no_eci_behind : (a b : List ℕ) → HaveNoEci (a ++ b) → HaveNoEci b
-no_eci_behind a b none i lt e =
-    none (length a + i) (omega (arith, lt, length-append a b)) (get_or-append-add a b i 0 ∙ e)
+no_eci_behind a b none i lt e = grind (arith, nat_tests, length-append, get_or-append-add)
 
 -- Parts without ECI have no designators.
 no_designation : (place before : ℕ) (words after : List ℕ) (said : Said) → IsContentPart Wide place words after said

@@ -1,6 +1,6 @@
 -- The designator that is found first is the one of the definition, and each number has one.
-use Rattle.dm_words.proofs.Names.{◌≡◌, ℕ, ◌+◌, ◌-◌, ◌*◌, ◌/◌, ◌%◌, ◌<◌, ◌≤◌, List, [], ◌∷◌, ◌++◌, length, refl, sym, ap}
-use Rattle.dm_words.proofs.Names.{subst, arith, Bool, true, false, cond, leb, ltb, ◌&&◌, Option, Some, None, ◌↔◌}
+use Rattle.dm_words.proofs.Names.{◌≡◌, ℕ, ◌+◌, ◌-◌, ◌*◌, ◌/◌, ◌%◌, ◌<◌, ◌≤◌, List, [], ◌∷◌, ◌++◌, length, refl}
+use Rattle.dm_words.proofs.Names.{subst, arith, Bool, true, false, cond, leb, ltb, ◌&&◌, Option, Some, None}
 use Rattle.dm_words.proofs.Names.{slice_get, ◌==◌, nat_tests, Designator, most_assigned, IsDesignator, one, two, three}
 use Rattle.dm_words.proofs.Names.{designator, first_designator}
 use Rattle.dm_words.specs.Designators.{BeginsNoDesignator}
@@ -18,9 +18,6 @@ pub record Found (words : List ℕ) (d : Designator) : Type 0 where
   pub is_designator : IsDesignator first d.number
   pub whole : words ≡ first ++ more
   pub count : d.count ≡ length first
-  pub some : 1 ≤ d.count
-  pub few : d.count ≤ 3
-  pub assigned : d.number ≤ most_assigned
 
 -- What is found is right.
 abbrev Judged : List ℕ → Option Designator → Type 0
@@ -41,9 +38,6 @@ judged_two a (b ∷ ws) low high = by_test (is_further b) refl where
         is_designator = two a b low high f refl refl;
         whole = refl;
         count = refl;
-        some = omega arith;
-        few = omega arith;
-        assigned = omega (arith, f.1);
       }
   by_test false e = tt
 
@@ -69,9 +63,6 @@ judged_three a (b ∷ c ∷ ws) low high =
             is_designator = three a b c low high (f.0, f.1) (f.2, f.3) refl refl m;
             whole = refl;
             count = refl;
-            some = omega arith;
-            few = omega arith;
-            assigned = m;
           }
       by_test true false e k = tt
       by_test false s e k = tt
@@ -94,9 +85,6 @@ judged (a ∷ ws) = by_test (a == 0) (leb a 127) (leb a 191) (leb a 207) refl re
         is_designator = one a f.0 f.1 refl refl;
         whole = refl;
         count = refl;
-        some = omega arith;
-        few = omega arith;
-        assigned = omega (arith, f.1);
       }
   by_test false false true h ez eo et eh = judged_two a ws (grind (arith, nat_tests)) (grind (arith, nat_tests))
   by_test false false false true ez eo et eh = judged_three a ws (grind (arith, nat_tests)) (grind (arith, nat_tests))
@@ -108,10 +96,7 @@ found words d e = let P : Option Designator → Type 0 = λ o. Judged words o in
 
 -- Where none is found, there is none.
 pub none_begins : (words : List ℕ) → first_designator words ≡ None → BeginsNoDesignator words
-none_begins words e number more b =
-    let c = designator_complete b.first more number b.is_designator in
-    let w : first_designator words ≡ first_designator (b.first ++ more) = ap first_designator b.whole in
-    absurd cc
+none_begins words e number more b = grind (arith, nat_tests, designator_complete, first_designator)
 
 -- Where there is none, none is found.
 pub none_found : (words : List ℕ) (o : Option Designator) → first_designator words ≡ o → BeginsNoDesignator words
@@ -143,9 +128,3 @@ designator_says n le = by_test (ltb n 127) (ltb n 16383) refl refl where
 -- Nothing but the designator of a number says it.
 pub designator_only : (words : List ℕ) (number : ℕ) → IsDesignator words number → words ≡ designator number
 designator_only words number h1 = grind (arith, nat_tests)
-
--- The numbers of assignments have one designator each.
-pub designator_is : (words : List ℕ) (number : ℕ) → number ≤ most_assigned
-    → IsDesignator words number ↔ (words ≡ designator number)
-designator_is words n le =
-    ((λ d. designator_only words n d), (λ e. subst (λ (w : List ℕ). IsDesignator w n) (sym e) (designator_says n le)))

@@ -1,8 +1,8 @@
 -- How many codewords are ECI, and room for the marks that they say.
 use Rattle.dm_words.proofs.Names.{◌≡◌, ℕ, ◌+◌, ◌<◌, ◌≤◌, List, [], ◌∷◌, ◌++◌, length, take, drop, ap, arith, ◌∙◌, ◌-◌}
-use Rattle.dm_words.proofs.Names.{Bool, get_or, drop-cons, sym, add-one, ◌==◌, if◌then◌else◌, eqb-true}
-use Rattle.dm_words.proofs.Names.{take-append-drop, drop-drop, drop_all, Extent, eci_word, ContentView, Said, Items}
-use Rattle.dm_words.proofs.Names.{Number, IsContentPart, part, mark, IsContentAt}
+use Rattle.dm_words.proofs.Names.{Bool, get_or, drop-cons, add-one, ◌==◌, if◌then◌else◌, eqb-true, take-append-drop}
+use Rattle.dm_words.proofs.Names.{drop-drop, drop_all, Extent, eci_word, ContentView, Said, Items, Number}
+use Rattle.dm_words.proofs.Names.{IsContentPart, part, mark, IsContentAt, nat_tests}
 use Rattle.dm_words.specs.Contents.{eci_count, HasMarkRoom}
 
 -- Of words behind others each is counted once.
@@ -61,8 +61,7 @@ counted is_eci = if is_eci then 1 else 0
 counted_here : (words : List ℕ) (at : ℕ) → at < length words → eci_count (drop at words)
     ≡ counted (get_or words at 0 == eci_word) + eci_count (drop (at + 1) words)
 unfolding eci_count
-counted_here words at lt =
-    ap eci_count (drop-cons words at 0 lt ∙ ap (λ (j : ℕ). get_or words at 0 ∷ drop j words) (sym (add-one at)))
+counted_here words at lt = grind (arith, nat_tests, eci_count, drop-cons, add-one)
 
 -- An ECI is counted, and another word isn't.
 pub eci_counted : (words : List ℕ) (at count : ℕ) → at < length words → eci_count words

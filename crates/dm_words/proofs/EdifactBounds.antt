@@ -1,11 +1,12 @@
 -- No run of EDIFACT is shorter than its cost, whatever the costs are, if they obey the rules of `AreEdifactCosts`.
-use Rattle.dm_words.proofs.Names.{◌≡◌, ◌≢◌, ℕ, suc, ◌+◌, ◌*◌, ◌/◌, ◌<◌, ◌≤◌, List, [], ◌∷◌, ◌++◌, length, map, refl, ap}
-use Rattle.dm_words.proofs.Names.{subst, arith, Bool, true, false, cond, ltb, AllByRecursion, nat_tests, length-append}
+use Rattle.dm_words.proofs.Names.{◌≡◌, ◌≢◌, ℕ, ◌+◌, ◌*◌, ◌/◌, ◌<◌, ◌≤◌, List, [], ◌∷◌, ◌++◌, length, map, ap}
+use Rattle.dm_words.proofs.Names.{arith, cond, ltb, nat_tests, length-append}
 use Rattle.dm_words.proofs.Names.{Item, Byte, spelled, gathered, byte_items, edifact_byte, IsEdifactEnd, few_left}
 use Rattle.dm_words.proofs.Names.{first, second, third, fourth, IsEdifactRun, leave}
-use Rattle.dm_words.proofs.Groups.{groups_room}
-use Rattle.dm_words.proofs.ItemBytes.{AreSixBits, small-append, groups_small, end_small}
+use Rattle.dm_words.proofs.Groups.{NoUnlatch, groups_room}
+use Rattle.dm_words.proofs.ItemBytes.{AreSixBits, groups_small, end_small}
 use Rattle.dm_words.proofs.LowerBounds.{leave_bounds}
+use Rattle.dm_words.proofs.Pieces.{all-append}
 
 -- These are costs: `least` in ASCII; `owed`, in a run of EDIFACT where some values stand whose codewords are owed too.
 pub record AreEdifactCosts (least : List Item → ℕ) (owed : ℕ → List Item → ℕ) : Type 0 where
@@ -15,16 +16,9 @@ pub record AreEdifactCosts (least : List Item → ℕ) (owed : ℕ → List Item
   pub ends : (q : ℕ) (m : List Item) → owed (4 * q) m ≤ 3 * q + leave 2 (least m)
   pub last : (q : ℕ) (m : List Item) → owed (4 * q + 3) m ≤ 3 * q + 3 + least m
 
--- No value unlatches.
-abbrev NoUnlatch : List ℕ → Type 0
-NoUnlatch vs = AllByRecursion (λ v. v ≢ 31) vs
-
 -- The byte of a value is 32 to 94.
 value_byte : (v : ℕ) → v < 64 → v ≢ 31 → (32 ≤ edifact_byte v) × (edifact_byte v ≤ 94)
-value_byte v lt none = by_test (ltb v 31) refl where
-  by_test : (t : Bool) → ltb v 31 ≡ t → (32 ≤ cond t (v + 64) v) × (cond t (v + 64) v ≤ 94)
-  by_test true e = (omega arith, (let l : v < 31 = grind (arith, nat_tests) in omega (arith, l)))
-  by_test false e = let l : 31 ≤ v = grind (arith, nat_tests) in (omega (arith, l, none), omega (arith, lt))
+value_byte v lt none = grind (arith, nat_tests, ltb, cond)
 
 module _ (least : List Item → ℕ) (owed : ℕ → List Item → ℕ) (costs : AreEdifactCosts least owed) where
   -- The items of values.
@@ -35,19 +29,11 @@ module _ (least : List Item → ℕ) (owed : ℕ → List Item → ℕ) (costs :
       → owed r (texts vs ++ m) ≤ owed (r + length vs) m
   telescope [] r m small none = let e : r + 0 ≡ r = omega arith in rw e (omega arith)
   telescope (v ∷ vs) r m small none =
-      let b = value_byte v small.0 none.0 in
-      let one = costs.goes r (edifact_byte v) (texts vs ++ m) b.0 b.1 in
-      let e : (r + 1) + length vs ≡ r + suc (length vs) = omega arith in
-      let there : owed (r + 1) (texts vs ++ m) ≤ owed (r + suc (length vs)) m =
-      subst (λ (j : ℕ). owed (r + 1) (texts vs ++ m) ≤ owed j m) e (telescope vs (r + 1) m small.1 none.1) in
-      omega (arith, one, there)
+      grind (arith, nat_tests, value_byte, edifact_byte, texts, telescope vs (r + 1) m small.1 none.1)
 
   to_end : (vs : List ℕ) (n : ℕ) (m : List Item) → AreSixBits vs → NoUnlatch vs → length vs ≡ n
       → least (texts vs ++ m) ≤ 1 + owed n m
-  to_end vs n m small none e =
-      let z : 0 + length vs ≡ n = omega (arith, e) in
-      let t : owed 0 (texts vs ++ m) ≤ owed n m = rw z at (telescope vs 0 m small none) in
-      omega (arith, costs.begins (texts vs ++ m), t)
+  to_end vs n m small none e = grind (arith, nat_tests, texts, telescope)
 
   -- Whole groups.
   whole : (vs : List ℕ) (q : ℕ) (m : List Item) → AreSixBits vs → NoUnlatch vs → length vs ≡ 4 * q
@@ -57,8 +43,7 @@ module _ (least : List Item → ℕ) (owed : ℕ → List Item → ℕ) (costs :
   -- The first value goes into ASCII.
   front_one : (v : ℕ) (vs : List ℕ) (m : List Item) → v < 64 → v ≢ 31
       → least (texts (v ∷ vs) ++ m) ≤ 1 + least (texts vs ++ m)
-  front_one v vs m lt none = let b =
-      value_byte v lt none in costs.unit (edifact_byte v) (texts vs ++ m) (omega (arith, b.1))
+  front_one v vs m lt none = grind (arith, nat_tests, value_byte, edifact_byte, texts)
 
   and_one : (vs : List ℕ) (q : ℕ) (m : List Item) → AreSixBits vs → NoUnlatch vs → length vs ≡ 4 * q + 1
       → least (texts vs ++ m) ≤ 2 + 3 * q + leave 2 (least m)
@@ -123,7 +108,7 @@ module _ (least : List Item → ℕ) (owed : ℕ → List Item → ℕ) (costs :
       let room = groups_room r.groups r.each in
       let vs = gathered r.groups ++ r.last in
       let small : AreSixBits vs =
-      small-append (gathered r.groups) r.last (groups_small r.groups r.each) (end_small _ _ _ r.ended) in
+      all-append (λ v. v < 64) (gathered r.groups) r.last (groups_small r.groups r.each) (end_small _ _ _ r.ended) in
       let q = length (spelled r.groups) / 3 in
       let l : length vs ≡ 4 * q + length r.last = omega (arith, room, length-append (gathered r.groups) r.last) in
       let e = end_lower r.end after r.last vs q m r.ended small r.no_unlatch l le in

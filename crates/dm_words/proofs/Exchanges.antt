@@ -1,13 +1,13 @@
 -- Where FNC1 comes first, or second behind one codeword of ASCII, nothing is cheaper than ASCII: FNC1 has two values in
 -- a run and one codeword in ASCII.
 use Rattle.dm_words.proofs.Names.{◌≡◌, ℕ, ◌+◌, ◌-◌, ◌<◌, ◌≤◌, List, [], ◌∷◌, length, refl, arith, Bool, true, false}
-use Rattle.dm_words.proofs.Names.{cond, ltb, nat_le, ◌&&◌, min, nat_tests, CodeSet, C40, Text, X12, Extent, Usual, Wide}
+use Rattle.dm_words.proofs.Names.{cond, ltb, nat_le, ◌&&◌, min, nat_tests, CodeSet, C40, Text, X12, Extent}
 use Rattle.dm_words.proofs.Names.{Item, Byte, Fnc1, One, Two, Run, Edifact, Segment, Rest, Setting, is_digit, Pairs}
 use Rattle.dm_words.proofs.Names.{Groups, Going, Row, never, most_behind, unit_cost, is_basic, set_values, stay}
 use Rattle.dm_words.proofs.Names.{stay_edifact, has_edifact, segment_cost, least, cost_of, going_over, parts_cost}
-use Rattle.dm_words.specs.inner.Costs.{row, owed, IsRightBegin}
+use Rattle.dm_words.specs.inner.Costs.{row, row_pairs, owed, IsRightBegin}
 use Rattle.dm_words.specs.inner.Written.{HasShifts}
-use Rattle.dm_words.proofs.CostsMet.{pairs_of, pairs_is, begins, least_is, second_is, is_pair}
+use Rattle.dm_words.proofs.CostsMet.{pairs_is, begins, least_is, second_is, is_pair}
 use Rattle.dm_words.proofs.Plans.{cost_most}
 
 -- ---- in a run nothing is far ahead of ASCII
@@ -22,10 +22,7 @@ pub record IsNear (cost : ℕ) (p : Pairs) : Type 0 where
 over : (cost next : ℕ) (p : Pairs) → IsNear next p → (low basic raised : Bool) → cost ≤ cond low 1 2 + next
     → (cost ≤ 3 + (stay (cond low (cond basic 1 2) (2 + cond raised 1 2)) p).one)
     × (cost ≤ 2 + (stay (cond low (cond basic 1 2) (2 + cond raised 1 2)) p).two)
-over cost next p n true true raised le = (omega (arith, le, n.two), omega (arith, le, n.none))
-over cost next p n true false raised le = (omega (arith, le, n.none), omega (arith, le, n.one))
-over cost next p n false basic true le = (omega (arith, le, n.one), omega (arith, le, n.two))
-over cost next p n false basic false le = (omega (arith, le, n.two), omega (arith, le, n.none))
+over cost next p h1 low basic raised h2 = grind (arith, nat_tests)
 
 -- So it is over any item.
 over_item : (set : CodeSet) (x : Item) (cost next : ℕ) (p : Pairs) → HasShifts set → IsNear next p
@@ -41,21 +38,17 @@ over_item Text (Byte b) cost next p has n le =
 -- A run of C40 or Text that takes a byte below 128 first is no cheaper.
 low_run : (cost : ℕ) (p : Pairs) → cost ≤ 2 + p.one → cost ≤ 2 + p.two → (basic : Bool)
     → 1 + cost ≤ 1 + (stay (cond basic 1 2) p).none
-low_run cost p one two true = omega (arith, one)
-low_run cost p one two false = omega (arith, two)
+low_run cost p h1 h2 basic = grind (arith, nat_tests)
 
 -- Nor can one of X12, or of EDIFACT, that would have to end at once.
 no_x12 : (p : Pairs) → p.one ≡ never → (basic : Bool) → never ≤ (stay (cond basic 1 0) p).none
-no_x12 p none true = omega (arith, none)
-no_x12 p none false = omega arith
+no_x12 p h1 basic = grind (arith, nat_tests)
 
 no_groups_so : (g : Groups) → never ≤ g.one → (has : Bool) → never ≤ (stay_edifact has g).none
-no_groups_so g none true = omega (arith, none)
-no_groups_so g none false = omega arith
+no_groups_so g h1 has = grind (arith, nat_tests)
 
 no_second_group : (g : Groups) → g.two ≡ never → (has : Bool) → never ≤ (stay_edifact has g).one
-no_second_group g none true = omega (arith, none)
-no_second_group g none false = omega arith
+no_second_group g h1 has = grind (arith, nat_tests)
 
 -- A segment costs its latch and its length at least.
 segment_least : (bytes near : ℕ) → 2 + bytes ≤ segment_cost bytes near
@@ -74,12 +67,10 @@ two_least x pair next g a b c d e f h = omega (arith, a, b, c, d, e, f, h)
 
 -- EDIFACT has no FNC1.
 no_edifact : (extent : Extent) → has_edifact extent Fnc1 ≡ false
-no_edifact Usual = refl
-no_edifact Wide = refl
+no_edifact extent = grind (arith, nat_tests)
 
 and_false : (t : Bool) → t && false ≡ false
-and_false true = refl
-and_false false = refl
+and_false t = grind (arith, nat_tests)
 
 -- Before FNC1 and what follows it costs this much.
 record IsBeforeFnc1 (next before : Row) : Type 0 where
@@ -93,35 +84,20 @@ record IsBeforeFnc1 (next before : Row) : Type 0 where
 -- A digit is one value of each set.
 digit_values : (b : ℕ) → is_digit b ≡ true → (ltb b 128 ≡ true) × (is_basic C40 b ≡ true) × (is_basic Text b ≡ true) ×
     (is_basic X12 b ≡ true)
-digit_values b is =
-    (grind (arith, nat_tests), grind (arith, nat_tests), grind (arith, nat_tests), grind (arith, nat_tests))
+digit_values b is = grind (arith, nat_tests)
 
 module _ (setting : Setting) (small : setting.behind ≤ most_behind) where
-  none_near : (set : CodeSet) → IsNear (parts_cost setting []) (pairs_of set (row setting []))
+  none_near : (set : CodeSet) → IsNear (parts_cost setting []) (row_pairs set (row setting []))
   unfolding row owed
-  none_near C40 = record {
-    none = begins setting (omega (arith, small)) C40 [];
-    one = omega (arith, small);
-    two = omega (arith, small);
-  }
-  none_near Text = record {
-    none = begins setting (omega (arith, small)) Text [];
-    one = omega (arith, small);
-    two = omega (arith, small);
-  }
-  none_near X12 = record {
-    none = begins setting (omega (arith, small)) X12 [];
-    one = omega (arith, small);
-    two = omega (arith, small);
-  }
+  none_near set = grind (arith, nat_tests, begins)
 
   -- A run never gets far ahead.
   near : (set : CodeSet) → HasShifts set → (m : List Item)
-      → IsNear (parts_cost setting m) (pairs_of set (row setting m))
+      → IsNear (parts_cost setting m) (row_pairs set (row setting m))
   unfolding owed
   near set has [] = none_near set
   near set has (x ∷ m) =
-      let o = over_item set x (parts_cost setting (x ∷ m)) (parts_cost setting m) (pairs_of set (row setting m)) has
+      let o = over_item set x (parts_cost setting (x ∷ m)) (parts_cost setting m) (row_pairs set (row setting m)) has
       (near set has m) (least_is setting x m One) in
       let is = pairs_is setting set x m in
       record {
@@ -157,14 +133,7 @@ module _ (setting : Setting) (small : setting.behind ≤ most_behind) where
 
   before_fnc1 : (m : List Item) → IsBeforeFnc1 (row setting m) (row setting (Fnc1 ∷ m))
   unfolding row
-  before_fnc1 m = record {
-    c40 = (refl, refl);
-    text = (refl, refl);
-    x12 = (refl, refl);
-    edifact = rw (no_edifact setting.extent) (refl, refl);
-    bytes = refl;
-    rest = refl;
-  }
+  before_fnc1 m = grind (arith, nat_tests, no_edifact)
 
   -- ---- FNC1 behind a byte below 128
 
@@ -199,8 +168,7 @@ module _ (setting : Setting) (small : setting.behind ≤ most_behind) where
 
   low_cost : (b : ℕ) (m : List Item) → b < 128 → length m ≤ 3121
       → parts_cost setting (Byte b ∷ Fnc1 ∷ m) ≡ 1 + parts_cost setting (Fnc1 ∷ m)
-  low_cost b m lt few =
-      let low : ltb b 128 ≡ true = grind (arith, nat_tests) in rw low at (fnc1_second b m lt few)
+  low_cost b m lt few = grind (arith, nat_tests, ltb, fnc1_second)
 
   -- ---- FNC1 behind two digits
 
@@ -216,16 +184,7 @@ module _ (setting : Setting) (small : setting.behind ≤ most_behind) where
   before_digit : (c : ℕ) (m : List Item) → is_digit c ≡ true
       → IsBeforeDigit (row setting (Fnc1 ∷ m)) (row setting (Byte c ∷ Fnc1 ∷ m)) (parts_cost setting (Fnc1 ∷ m))
   unfolding row
-  before_digit c m is =
-      let v = digit_values c is in record {
-        c40 = rw (v.0, v.1) refl;
-        text = rw (v.0, v.2) refl;
-        x12 = rw v.3 refl;
-        edifact = no_second_group (row setting (Fnc1 ∷ m)).edifact (before_fnc1 m).edifact.1
-            (has_edifact setting.extent (Byte c));
-        bytes = refl;
-        rest = refl;
-      }
+  before_digit c m is = grind (arith, nat_tests, digit_values, no_second_group, row, before_fnc1, has_edifact)
 
   pub fnc1_third : (b c : ℕ) (m : List Item) → is_digit b ≡ true → is_digit c ≡ true → length m ≤ 3120
       → IsRightBegin setting (Byte b ∷ Byte c ∷ Fnc1 ∷ m) Two

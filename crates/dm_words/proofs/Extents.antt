@@ -3,7 +3,7 @@ use Rattle.dm_words.proofs.Names.{◌≡◌, ℕ, ◌+◌, List, [], ◌∷◌, 
 use Rattle.dm_words.proofs.Names.{Wide, Item, CodeSet, Opening, Plain, Piece, spelled, AreJoined, IsDropped, filler}
 use Rattle.dm_words.proofs.Names.{waiting, AreValues, IsPart, run, segment, edifact, ContentView, Said, IsContentPart}
 use Rattle.dm_words.proofs.Names.{part, mark, AreContentParts, IsOpening, headed, framed, plain, said_content, Says}
-use Rattle.dm_words.proofs.Names.{BeginsFrame, SpellsThenPads, plain_padded, macro_padded}
+use Rattle.dm_words.proofs.Names.{BeginsFrame, arith, nat_tests}
 use Rattle.dm_words.specs.Parts.{ascii}
 use Rattle.dm_words.proofs.ContentParts.{not_wide}
 use Rattle.dm_words.proofs.SpelledContents.{opened_plain, no_frame}
@@ -41,12 +41,6 @@ part_wider place words after items (run set r) =
     })
 
 -- Parts in the usual extent are parts in the wide one.
-joined_wider : (place : ℕ) (ps : List (Piece (List Item))) (after : List ℕ)
-    → AreJoined (IsPart Usual) place ps after → AreJoined (IsPart Wide) place ps after
-joined_wider place [] after h = tt
-joined_wider place (p ∷ ps) after h = (part_wider _ _ _ _ h.0, joined_wider (place + length p.words) ps after h.1)
-
--- So are parts of a content.
 said_joined_wider : (place : ℕ) (ps : List (Piece Said)) (after : List ℕ)
     → AreJoined (IsContentPart Usual) place ps after → AreJoined (IsContentPart Wide) place ps after
 said_joined_wider place [] after h = tt
@@ -105,20 +99,4 @@ usual_no_frame words l s = (let w = wide_parts words l s in no_frame words w.sai
 
 -- What they say in some extent they say in the wide one.
 pub said_wide : (extent : Extent) (words : List ℕ) (l : ContentView) → Says extent words l → Says Wide words l
-said_wide Usual words l s = usual_said_wide words l s
-said_wide Wide words l s = s
-
--- The same, with pads behind them.
-pub wide_reads_the_padded : (words : List ℕ) (m : List Item) → SpellsThenPads Usual words m
-    → SpellsThenPads Wide words m
-wide_reads_the_padded words m (plain_padded p pads) =
-    plain_padded (record {
-      parts = p.parts;
-      after = p.after;
-      joined = joined_wider 1 p.parts p.after p.joined;
-      ended =
-          p.ended;
-      whole = p.whole;
-      items_are = p.items_are;
-    }) pads
-wide_reads_the_padded words m (macro_padded word digit more text is k whole p e pads) = absurd cc
+said_wide extent words l h1 = grind (arith, nat_tests, usual_said_wide)

@@ -1,6 +1,6 @@
 -- Where FNC1 is a codeword of its own: first or second behind a head, as its first two codewords say.
 use Rattle.dm_words.proofs.Names.{◌≡◌, ℕ, suc, ◌+◌, ◌-◌, ◌/◌, ◌%◌, ◌<◌, ◌≤◌, List, [], ◌∷◌, ◌++◌, length, refl, sym, ap}
-use Rattle.dm_words.proofs.Names.{subst, ◌∙◌, arith, length-append, Bool, true, false, cond, Option, Some, None, drop}
+use Rattle.dm_words.proofs.Names.{subst, ◌∙◌, arith, length-append, Bool, true, false, cond, Option, Some, drop}
 use Rattle.dm_words.proofs.Names.{take, append_assoc, drop-append_seam, ◌==◌, ◌&&◌, nat_tests, nil_from_length}
 use Rattle.dm_words.proofs.Names.{take_rest, Codeword, Wide, Item, Byte, Fnc1, Head, Opened, Opening, codeword_of}
 use Rattle.dm_words.proofs.Names.{head_words, Piece, spelled, AreJoined, Said, Items, IsContentPart, part, mark}
@@ -198,7 +198,6 @@ alone_tests start w after said (mark d number wide (three f g h a b c k e is few
 alone_part : (start w : ℕ) (after : List ℕ) (k : Option Codeword) → codeword_of w ≡ k
     → is_alone k (length after) ≡ true → ((digit : ℕ) → k ≡ Some (codeword.Macro digit) → ⊥)
     → (said : Said) × IsContentPart Wide start (w ∷ []) (232 ∷ after) said
-alone_part start w after None e is other = absurd (cc)
 alone_part start w after (Some (codeword.Character byte)) e is other =
     let items = Byte byte ∷ [] in (Items items, part items (ascii (character w byte e refl refl)) refl)
 alone_part start w after (Some (codeword.Digits number)) e is other =
@@ -206,10 +205,6 @@ alone_part start w after (Some (codeword.Digits number)) e is other =
     (Items items, part items (ascii (digits w number e refl refl)) refl)
 alone_part start w after (Some codeword.Fnc1) e is other =
     (Items (Fnc1 ∷ []), part (Fnc1 ∷ []) (ascii (fnc1 w e refl refl)) refl)
-alone_part start w after (Some codeword.Pad) e is other = absurd (cc)
-alone_part start w after (Some codeword.Base256) e is other = absurd (cc)
-alone_part start w after (Some codeword.UpperShift) e is other = absurd (cc)
-alone_part start w after (Some codeword.LeftOut) e is other = absurd (cc)
 alone_part start w after (Some (codeword.Macro digit)) e is other = absurd (other digit refl)
 alone_part start w after (Some (codeword.Latch set)) e is other =
     let none : after ≡ [] = nil_from_length after (grind (arith, nat_tests)) in
@@ -247,6 +242,7 @@ alone_part start w after (Some codeword.Edifact) e is other =
         items_are = refl;
       })) refl,
     )
+alone_part start w after k e is other = absurd cc
 
 -- ---- the number, by the first two codewords
 
@@ -436,12 +432,10 @@ identified words l said = rw (ap (λ (x : ContentView). x.head) said.content_is)
 
 -- A content's marks are none, or some, as their count says.
 pub no_marks : (marks : List Mark) → (length marks == 0) ≡ true → marks_number marks ≡ 0
-no_marks [] e = refl
-no_marks (m ∷ marks) e = absurd (grind (arith, nat_tests))
+no_marks marks h1 = grind (arith, nat_tests)
 
 pub some_marks : (marks : List Mark) → (length marks == 0) ≡ false → marks_number marks ≡ 3
-some_marks [] e = absurd (grind (arith, nat_tests))
-some_marks (m ∷ marks) e = refl
+some_marks marks h1 = grind (arith, nat_tests)
 
 -- Codewords have one number by their first two behind a head.
 pub one_number : (words : List ℕ) (behind m n : ℕ) → IsFnc1Number words behind m → IsFnc1Number words behind n → m ≡ n
@@ -450,8 +444,7 @@ one_number words behind m n h1 h2 = grind (arith, nat_tests)
 -- Codewords that say a content have at most one identifier.
 pub identifier_is_one : (words : List ℕ) (l : ContentView) (a b : ℕ) → IsIdentifier words l a → IsIdentifier words l b
     → a ≡ b
-identifier_is_one words l a b x y =
-    cc (x.number_is, one_number words (length (head_words l.head)) x.fnc1 y.fnc1 x.is_fnc1 y.is_fnc1, y.number_is)
+identifier_is_one words l a b x y = grind (arith, nat_tests, one_number, head_words)
 
 -- And they have one.
 pub identifier_is_there : (words : List ℕ) (l : ContentView) → Says Wide words l
@@ -466,7 +459,4 @@ pub identifier_of : (words : List ℕ) (l : ContentView) (h : Option Head) (n nu
     → h ≡ l.head → n ≡ length (head_words h) → number ≡ fnc1_number (take (length words - n) (drop n words))
     → total ≡ number + marks_number l.marks → IsIdentifier words l total
 identifier_of words l h n number total said head count is all =
-    let i = identified words l said in
-    let whole : take (length words - n) (drop n words) ≡ drop (length (head_words l.head)) words =
-    cc (take_rest words n) in
-    record { fnc1 = number; is_fnc1 = rw (is, whole) i.1; number_is = all }
+    grind (arith, nat_tests, identified, head_words, take_rest, fnc1)

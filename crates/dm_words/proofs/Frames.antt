@@ -1,9 +1,10 @@
 -- Items that begin with the header of a macro and end with its trailer.
 use Rattle.dm_words.proofs.Names.{◌≡◌, ℕ, zero, suc, ◌+◌, ◌-◌, ◌<◌, ◌≤◌, List, [], ◌∷◌, ◌++◌, length, take, drop}
-use Rattle.dm_words.proofs.Names.{get_or, add-one, append_assoc, refl, ap, subst, ◌∙◌, arith, length-append}
-use Rattle.dm_words.proofs.Names.{take-append-drop, drop-drop, take-suc, drop-append_seam, Item, Byte, Fnc1, byte_items}
+use Rattle.dm_words.proofs.Names.{get_or, add-one, append_assoc, refl, ap, ◌∙◌, arith, length-append}
+use Rattle.dm_words.proofs.Names.{take-append-drop, drop-drop, take-suc, drop-append_seam, Item, Byte, byte_items}
 use Rattle.dm_words.proofs.Names.{macro_header, macro_trailer, macro_text, BeginsFnc1, FramesFnc1, inner_text}
 use Rattle.dm_words.proofs.SegmentLoops.{byte_items-append}
+use Rattle.dm_words.proofs.Names.{nat_tests}
 
 -- The item of a byte at an index.
 pub byte_at : (bytes : List ℕ) (i : ℕ) (d : Item) → i < length bytes → get_or (byte_items bytes) i d
@@ -49,10 +50,4 @@ frames_not m digit text h1 h2 h3 = grind (arith, macro_text)
 -- FNC1 that comes first between them comes first in the text.
 pub fnc1_inside : (m : List Item) (digit : ℕ) (text : List Item) (count : ℕ) → m ≡ macro_text digit text
     → BeginsFnc1 (take count (drop 7 m)) → BeginsFnc1 text
-fnc1_inside m digit text count is b =
-    by_text text count (subst (λ (l : List Item). BeginsFnc1 (take count (drop 7 l))) is b) where
-      by_text : (text : List Item) (count : ℕ) → BeginsFnc1 (take count (text ++ macro_trailer)) → BeginsFnc1 text
-      by_text text zero b = absurd b
-      by_text [] (suc count) b = absurd b
-      by_text (Byte byte ∷ text) (suc count) b = absurd b
-      by_text (Fnc1 ∷ text) (suc count) b = tt
+fnc1_inside m digit text count is b = grind (arith, nat_tests, macro_trailer)

@@ -1,7 +1,7 @@
 -- A run of EDIFACT that follows the plan stays within its budget.
-use Rattle.dm_words.proofs.Names.{◌≡◌, ◌⊎◌, inl, inr, ℕ, suc, ◌+◌, ◌<◌, ◌≤◌, List, [], ◌∷◌, length, drop, get_or, refl}
+use Rattle.dm_words.proofs.Names.{◌≡◌, ◌⊎◌, ℕ, suc, ◌+◌, ◌<◌, ◌≤◌, List, [], ◌∷◌, length, drop, get_or, refl}
 use Rattle.dm_words.proofs.Names.{sym, ◌∙◌, arith, Bool, true, false, nat_le, not, nat_tests, length-drop, at_drop_more}
-use Rattle.dm_words.proofs.Names.{length-append, Extent, Setting, Usual, Wide, Item, Byte, Fnc1, Groups, Group, never}
+use Rattle.dm_words.proofs.Names.{length-append, Extent, Setting, Wide, Item, Byte, Groups, Group, never}
 use Rattle.dm_words.proofs.Names.{no_groups, leave, or_leave_edifact, has_edifact, stay_edifact, byte_before}
 use Rattle.dm_words.proofs.Names.{going_from, parts_cost, IsRightStep, waiting_values, IsGroupPushed, IsEdifactEnded}
 use Rattle.dm_words.specs.inner.Costs.{Step, owed_group, row}
@@ -27,8 +27,7 @@ stops_are setting m s g h1 = grind (arith, nat_tests, group_stops, stops_by, nat
 edifact_are : (setting : Setting) (m : List Item) → (row setting m).edifact
     ≡ or_leave_edifact (parts_cost setting m) (going_from setting m).edifact
 unfolding row
-edifact_are setting [] = refl
-edifact_are setting (x ∷ m) = refl
+edifact_are setting m = grind (arith, nat_tests)
 
 -- Where a run goes on, it can pay for that.
 goes_on : (g : Group) (cost words total : ℕ) (over : Groups)
@@ -45,12 +44,7 @@ leaves : (g : Group) (cost words total : ℕ) (over : Groups)
     → ((length (waiting_values g) ≡ 0) × (words + leave 2 cost ≤ total)) ⊎
     ((length (waiting_values g) ≡ 3) × (words + 3 + cost ≤ total))
 unfolding owed_group
-leaves group.Empty cost words total over b stops = let le : leave 2 cost ≤ over.none =
-    grind (arith, nat_tests) in inl (refl, omega (arith, le, b))
-leaves (group.One x) cost words total over b stops = absurd cc
-leaves (group.Two x y) cost words total over b stops = absurd cc
-leaves (group.Three x y z) cost words total over b stops = let le : cost ≤ over.three =
-    grind (arith, nat_tests) in inr (refl, omega (arith, le, b))
+leaves g cost words total over h1 h2 = grind (arith, nat_tests, leave)
 
 -- Values that stand cost nothing less than themselves.
 owed_some : (g : Group) (next : Groups) → length (waiting_values g) ≤ owed_group (length (waiting_values g)) next
@@ -73,11 +67,7 @@ record IsHeld (extent : Extent) (x : Item) : Type 0 where
 
 -- An item is held by a run of EDIFACT.
 held : (extent : Extent) (x : Item) → has_edifact extent x ≡ true → IsHeld extent x
-held Usual (Byte b) e = absurd cc
-held Usual Fnc1 e = absurd cc
-held Wide Fnc1 e = absurd cc
-held Wide (Byte b) e =
-    record { wide = refl; byte = b; is = refl; low = grind (arith, nat_tests); high = grind (arith, nat_tests) }
+held extent x h1 = grind (arith, nat_tests)
 
 -- Where the costs of going on over an item are paid, the run holds the item, and the costs behind it are paid.
 over_paid : (extent : Extent) (x : Item) (g : Group) (words total : ℕ) (next : Groups)

@@ -1,8 +1,8 @@
 -- The loop that reads the groups of a run of EDIFACT, and the ways in which a group ends.
-use Rattle.dm_words.proofs.Names.{◌≡◌, ◌≢◌, ℕ, ◌+◌, ◌-◌, ◌<◌, ◌≤◌, List, [], ◌∷◌, ◌++◌, length, map, drop, get_or, refl}
-use Rattle.dm_words.proofs.Names.{sym, ap, ◌∙◌, append_assoc, add-one, arith, length-append, Some, None, append-nil}
-use Rattle.dm_words.proofs.Names.{length-drop, map-append, drop-cons, Item, Byte, edifact_byte, group_values, group_by}
-use Rattle.dm_words.proofs.Names.{edifact_items}
+use Rattle.dm_words.proofs.Names.{◌≡◌, ◌≢◌, ℕ, ◌+◌, ◌-◌, ◌<◌, ◌≤◌, List, [], ◌∷◌, ◌++◌, length, map, drop, get_or}
+use Rattle.dm_words.proofs.Names.{refl, sym, ap, ◌∙◌, append_assoc, add-one, arith, length-append, Some, None}
+use Rattle.dm_words.proofs.Names.{append-nil, length-drop, map-append, drop-cons, Item, Byte, edifact_byte}
+use Rattle.dm_words.proofs.Names.{group_values, group_by, edifact_items, nat_tests}
 use Rattle.dm_words.specs.inner.Scan.Prefixes.{edifact_run}
 use Rattle.dm_words.specs.inner.Scan.Results.{IsGroupTaken}
 use Rattle.dm_words.proofs.SegmentLoops.{byte_items-append}
@@ -20,9 +20,7 @@ module _ (v w x y : ℕ) (old : List Item) (i : Item) (first_is : i
       ++ j ∷ []) (ne2 : w ≢ 31) where
     -- Two characters were added.
     two_items : two ≡ old ++ edifact_items (v ∷ w ∷ [])
-    two_items =
-        rw (two_is, one_is, first_is, second_is)
-        (append_assoc old (Byte (edifact_byte v) ∷ []) (Byte (edifact_byte w) ∷ []))
+    two_items = grind (arith, nat_tests, append_assoc, edifact_byte)
 
     -- The group ends behind its second value.
     pub ends_third : x ≡ 31 → IsGroupTaken (Some 3) old two (v ∷ w ∷ x ∷ y ∷ [])
@@ -32,9 +30,7 @@ module _ (v w x y : ℕ) (old : List Item) (i : Item) (first_is : i
         ++ k ∷ []) (ne3 : x ≢ 31) where
       -- Three characters were added.
       three_items : three ≡ old ++ edifact_items (v ∷ w ∷ x ∷ [])
-      three_items =
-          rw (three_is, two_items, third_is)
-          (append_assoc old (edifact_items (v ∷ w ∷ [])) (Byte (edifact_byte x) ∷ []))
+      three_items = grind (arith, nat_tests, two_items, append_assoc, edifact_items, edifact_byte)
 
       -- The group ends behind its third value.
       pub ends_fourth : y ≡ 31 → IsGroupTaken (Some 3) old three (v ∷ w ∷ x ∷ y ∷ [])
@@ -45,11 +41,7 @@ module _ (v w x y : ℕ) (old : List Item) (i : Item) (first_is : i
           ++ l ∷ []) (ne4 : y ≢ 31) where
         -- The group is whole.
         pub is_whole : IsGroupTaken None old four (v ∷ w ∷ x ∷ y ∷ [])
-        is_whole = (
-          (λ rest. rw (is_not v ne, is_not w ne2, is_not x ne3, is_not y ne4) refl),
-          rw (four_is, three_items, fourth_is)
-              (append_assoc old (edifact_items (v ∷ w ∷ x ∷ [])) (Byte (edifact_byte y) ∷ [])),
-        )
+        is_whole = grind (arith, nat_tests, is_not, three_items, append_assoc, edifact_items, edifact_byte)
 
 -- ---- the loop
 
@@ -74,8 +66,7 @@ group_first words next lt = grind (arith, first_of, edifact_run)
 
 -- The items of values, joined, are those of each, joined.
 edifact_items-append : (a b : List ℕ) → edifact_items (a ++ b) ≡ edifact_items a ++ edifact_items b
-edifact_items-append a b =
-    rw (map-append edifact_byte a b) (byte_items-append (map edifact_byte a) (map edifact_byte b))
+edifact_items-append a b = grind (arith, nat_tests, map-append, edifact_byte, byte_items-append, map)
 
 module _ (words : List ℕ) (start next : ℕ) (first old new : List Item)
     (so_far : GroupsGoOn words start first old next) where
@@ -83,12 +74,7 @@ module _ (words : List ℕ) (start next : ℕ) (first old new : List Item)
   pub border_ends : length words - next ≤ 2
       → (start + (edifact_run (drop start words)).0 ≡ next) × (old ≡ first
       ++ edifact_items (edifact_run (drop start words)).1)
-  border_ends le =
-      let e : edifact_run (drop next words)
-      ≡ (0, []) = border_found (drop next words) (omega (arith, length-drop next words)) in
-      let here = rw e at so_far.items in
-      let n = rw e at so_far.count in
-      (omega (arith, n), sym (here ∙ append-nil old))
+  border_ends le = grind (arith, nat_tests, edifact_run, border_found, length-drop, append-nil)
 
   module _ (lt : next + 2 < length words) where
     -- The values of the next group.
@@ -99,24 +85,10 @@ module _ (words : List ℕ) (start next : ℕ) (first old new : List Item)
     pub group_ends : (n : ℕ) → IsGroupTaken (Some n) old new group
         → (start + (edifact_run (drop start words)).0 ≡ next + n) × (new ≡ first
         ++ edifact_items (edifact_run (drop start words)).1) × (n ≤ 3)
-    group_ends n took =
-        let e = group_first words next lt ∙ took.1 (edifact_run (drop (next + 3) words)) in
-        let here = rw e at so_far.items in
-        let count = rw e at so_far.count in
-        (count, took.2 ∙ sym here, took.3)
+    group_ends n took = grind (arith, nat_tests, group_first, edifact_run)
 
     -- After a whole group, the run is still the same.
     pub group_goes_on : IsGroupTaken None old new group
         → GroupsGoOn words start first new (next + 3) × (length new ≡ length old + 4)
     group_goes_on took =
-        let rest = edifact_run (drop (next + 3) words) in
-        let e = group_first words next lt ∙ took.0 rest in
-        let here = rw e at so_far.items in
-        let count = rw e at so_far.count in
-        let joined : old ++ edifact_items (group ++ rest.1) ≡ new
-        ++ edifact_items rest.1 =
-        rw took.1 (ap (λ (r : List Item). old ++ r) (edifact_items-append group rest.1)
-        ∙ sym (append_assoc old (edifact_items group) (edifact_items rest.1))) in (
-          record { items = here ∙ joined; count = omega (arith, count) },
-          omega (arith, ap length took.1, length-append old (edifact_items group)),
-        )
+        grind (arith, nat_tests, group_first, group, edifact_items-append, append_assoc, length-append)

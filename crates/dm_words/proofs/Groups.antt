@@ -207,8 +207,7 @@ second_found : (high low value rest : ℕ) (after : List ℕ) → low < 256 → 
     ≡ 1024 * value + 16 * 31 + rest → rest < 16 → value ≢ 31 → 1 ≤ length after
     → edifact_run (high ∷ low ∷ after) ≡ (2, value ∷ [])
 unfolding edifact_run
-second_found high low value rest [] small is lt ne le = absurd (omega arith)
-second_found high low value rest (c ∷ more) small is lt ne le = grind (arith, is_not)
+second_found high low value rest after h1 h2 h3 h4 h5 = grind (arith, nat_tests, is_not)
 
 -- The end of a run is found.
 end_found : (end after last : List ℕ) → IsEdifactEnd end after last → NoUnlatch last → edifact_run (end ++ after)
@@ -294,18 +293,10 @@ edifact_complete words after items r =
 pub groups_room : (ps : List (Piece (List ℕ))) → AllByRecursion (λ p. IsGroup p.words p.what) ps
     → 3 * length (gathered ps) ≡ 4 * length (spelled ps)
 groups_room [] h = refl
-groups_room (p ∷ ps) h =
-    let one = group_room p.words p.what h.0 in
-    omega (arith, one, groups_room ps h.1, length-append p.what (gathered ps), length-append p.words (spelled ps)) where
-      group_room : (words values : List ℕ) → IsGroup words values → 3 * length values ≡ 4 * length words
-      group_room words values g = rw (g.words_are, g.values_are) refl
-
--- The end of a run has at most one value for each codeword.
-end_room : (end after last : List ℕ) → IsEdifactEnd end after last → length last ≤ length end
-end_room end after last h1 = grind (arith, nat_tests, few_left)
+groups_room (p ∷ ps) h = grind (arith, nat_tests, length-append, gathered, spelled, groups_room ps h.1)
 
 -- A run has at most two items for each word.
 pub edifact_room : (words after : List ℕ) (items : List Item) → IsEdifactRun words after items
     → length items ≤ 2 * length words
 edifact_room words after items r =
-    grind (arith, byte_items-length, edifact_byte, length-map, length-append, groups_room, end_room)
+    grind (arith, byte_items-length, edifact_byte, length-map, length-append, groups_room, nat_tests, few_left)

@@ -1,6 +1,6 @@
 -- The runs of EDIFACT that are written are runs.
 use Rattle.dm_words.proofs.Names.{◌≡◌, ◌≢◌, ◌⊎◌, inl, inr, ℕ, ◌+◌, ◌-◌, ◌%◌, ◌<◌, ◌≤◌, List, [], ◌∷◌, ◌++◌, length, map}
-use Rattle.dm_words.proofs.Names.{take, drop, get_or, append_assoc, refl, sym, ap, subst, ◌∙◌, arith, Bool, true, false}
+use Rattle.dm_words.proofs.Names.{take, drop, get_or, append_assoc, refl, sym, ap, subst, ◌∙◌, arith}
 use Rattle.dm_words.proofs.Names.{cond, ltb, AllByRecursion, nat_tests, append-nil, length-append, map-append, Extent}
 use Rattle.dm_words.proofs.Names.{Wide, Item, Byte, Group, Piece, spelled, gathered, IsGroup, edifact_byte}
 use Rattle.dm_words.proofs.Names.{IsEdifactEnd, IsEdifactRun, few_left, first, fourth, edifact, waiting_values}
@@ -14,11 +14,7 @@ use Rattle.dm_words.proofs.RunBudget.{one_more}
 
 -- The value of a byte of 32 to 94 is below 64, isn't the unlatch, and stands for the byte.
 pub value_of_byte : (b : ℕ) → 32 ≤ b → b ≤ 94 → (b % 64 < 64) × (b % 64 ≢ 31) × (edifact_byte (b % 64) ≡ b)
-value_of_byte b low high =
-    (omega arith, (λ e. absurd (omega (arith, e, low, high))), by_test (ltb (b % 64) 31) refl) where
-      by_test : (t : Bool) → ltb (b % 64) 31 ≡ t → cond t (b % 64 + 64) (b % 64) ≡ b
-      by_test true e = let lt : b % 64 < 31 = grind (arith, nat_tests) in omega (arith, lt, low, high)
-      by_test false e = let le : 31 ≤ b % 64 = grind (arith, nat_tests) in omega (arith, le, low, high)
+value_of_byte b low high = grind (arith, nat_tests, ltb, cond)
 
 -- So far a run has these items.
 pub record IsEdifactSoFar (old new : List ℕ) (g : Group) (items : List Item) : Type 0 where
@@ -31,8 +27,7 @@ pub record IsEdifactSoFar (old new : List ℕ) (g : Group) (items : List Item) :
 
 -- A run begins with its latch.
 pub edifact_begun : (old new : List ℕ) → new ≡ old ++ 240 ∷ [] → IsEdifactSoFar old new Empty []
-edifact_begun old new e =
-    record { groups = []; each = tt; words_are = e; small = tt; no_unlatch = tt; items_are = refl }
+edifact_begun old new e = grind (arith, nat_tests)
 
 -- One more item of a run.
 pub edifact_more : (old words words' : List ℕ) (g g' : Group) (items : List Item) (v b : ℕ) → v < 64 → v ≢ 31

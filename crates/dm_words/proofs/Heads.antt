@@ -1,5 +1,5 @@
 -- The head that is found first is the one of the definition, and what is written for a head says it.
-use Rattle.dm_words.proofs.Names.{◌≡◌, ℕ, ◌+◌, ◌-◌, ◌*◌, ◌≤◌, List, [], ◌∷◌, ◌++◌, length, refl, ap, subst, ◌∙◌, arith}
+use Rattle.dm_words.proofs.Names.{◌≡◌, ℕ, ◌+◌, ◌-◌, ◌*◌, ◌≤◌, List, [], ◌∷◌, ◌++◌, length, refl, subst, arith}
 use Rattle.dm_words.proofs.Names.{Bool, true, false, cond, Option, Some, None, slice_get, ◌==◌, nat_tests, Head, IsHead}
 use Rattle.dm_words.proofs.Names.{SpellsHead, programming, appended, BeginsNoHead, head_words, append_by, first_head}
 use Rattle.dm_words.proofs.Names.{head_length}
@@ -24,14 +24,9 @@ appended_test s e =
       low_most = f.7;
     }
 
--- A symbol of a sequence meets the test.
-pub appended_meets : (symbol : Appended) → IsAppended symbol → is_appended symbol ≡ true
-appended_meets s a =
-    grind (arith, nat_tests)
-
 -- A head that is there is found.
 pub head_complete : (words more : List ℕ) (said : Head) → SpellsHead words said → first_head (words ++ more) ≡ Some said
-head_complete words more said h1 = grind (arith, nat_tests, appended_symbol, is_appended, appended_meets)
+head_complete words more said h1 = grind (arith, nat_tests, appended_symbol, is_appended)
 
 -- The words begin with the head that was found.
 pub record Found (words : List ℕ) (said : Head) : Type 0 where
@@ -84,10 +79,7 @@ found words said e = let P : Option Head → Type 0 = λ o. Judged words o in su
 
 -- Where none is found, there is none.
 pub none_begins : (words : List ℕ) → first_head words ≡ None → BeginsNoHead words
-none_begins words e said more b =
-    let c = head_complete b.first more said b.spells in
-    let w : first_head words ≡ first_head (b.first ++ more) = ap first_head b.whole in
-    absurd cc
+none_begins words e said more b = grind (arith, nat_tests, head_complete, first_head)
 
 -- Where there is none, none is found.
 pub none_found : (words : List ℕ) (o : Option Head) → first_head words ≡ o → BeginsNoHead words → first_head words
@@ -106,7 +98,4 @@ head_says (head.Appended s) right =
 -- What says a head is right, and nothing but these codewords says it.
 pub head_only : (words : List ℕ) (said : Head) → SpellsHead words said
     → IsHead (Some said) × (words ≡ head_words (Some said))
-head_only words said (programming e is) = rw is (tt, e)
-head_only words said (appended q s right i n e is) =
-    let q_is : q ≡ 16 * (s.index - 1) + (17 - s.count) = omega (arith, i, n) in
-    rw is (right, (e ∙ ap (λ (x : ℕ). 233 ∷ x ∷ s.file_high ∷ s.file_low ∷ []) q_is))
+head_only words said h1 = grind (arith, nat_tests)

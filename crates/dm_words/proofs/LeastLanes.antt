@@ -1,7 +1,7 @@
 -- Which lane is the least, and which lanes are no greater than others.
 use Rattle.dm_words.proofs.Names.{◌≡◌, ℕ, zero, suc, ◌+◌, ◌%◌, ◌^◌, ◌<◌, List, [], ◌∷◌, length, get_or, map, refl, sym}
 use Rattle.dm_words.proofs.Names.{ap, subst, ◌∙◌, arith, Bool, true, false, not, cond, eqb, leb, ltb, w16, inl, inr}
-use Rattle.dm_words.proofs.Names.{replicate, nat_le, ◌==◌, min, zip2, top, sel_l, cases_lt, eqb-true, nat_tests}
+use Rattle.dm_words.proofs.Names.{replicate, nat_le, min, zip2, top, sel_l, cases_lt, eqb-true, nat_tests}
 use Rattle.dm_words.proofs.Names.{tops_compared, has_bit, least_of}
 use Rattle.std.specs.List.{prefix_len}
 use lib.Count.{count_trailing_zeros}
@@ -14,10 +14,7 @@ use Rattle.std.proofs.lemmas.List.Sums.{prefix_len_passes}
 
 -- What is so of both is so of the lesser.
 either : (P : ℕ → Type 0) (a b : ℕ) → P a → P b → P (min a b)
-either P a b pa pb = elim (cases_lt a b) [
-  | inl lt ↦ (let e : a ≡ min a b = omega (arith, lt) in subst P e pa)
-  | inr le ↦ (let e : b ≡ min a b = omega (arith, le) in subst P e pb)
-]
+either P a b pa pb = grind (arith, nat_tests, cases_lt, min)
 
 -- A number stands at some place of a list.
 abbrev Stands : List ℕ → ℕ → Type 0
@@ -37,15 +34,7 @@ least_stands a b c d e f g h =
 -- So is that of a list of eight.
 least_in : (xs : List ℕ) → length xs ≡ 8 → Stands xs (least_of xs)
 least_in (a ∷ b ∷ c ∷ d ∷ e ∷ f ∷ g ∷ h ∷ []) long = least_stands a b c d e f g h
-least_in [] long = absurd (omega (arith, long))
-least_in (a ∷ []) long = absurd (omega (arith, long))
-least_in (a ∷ b ∷ []) long = absurd (omega (arith, long))
-least_in (a ∷ b ∷ c ∷ []) long = absurd (omega (arith, long))
-least_in (a ∷ b ∷ c ∷ d ∷ []) long = absurd (omega (arith, long))
-least_in (a ∷ b ∷ c ∷ d ∷ e ∷ []) long = absurd (omega (arith, long))
-least_in (a ∷ b ∷ c ∷ d ∷ e ∷ f ∷ []) long = absurd (omega (arith, long))
-least_in (a ∷ b ∷ c ∷ d ∷ e ∷ f ∷ g ∷ []) long = absurd (omega (arith, long))
-least_in (a ∷ b ∷ c ∷ d ∷ e ∷ f ∷ g ∷ h ∷ i ∷ more) long = absurd (omega (arith, long))
+least_in xs long = absurd (omega (arith, long))
 
 -- It isn't greater than the second.
 pub least_small : (xs : List ℕ) (most : ℕ) → length xs ≡ 8 → get_or xs 1 0 < most → least_of xs < most
@@ -103,10 +92,6 @@ least_place xs m long is =
 
 -- ---- the ends
 
-bit_is : (b : Bool) → (cond b 1 0 == 1) ≡ b
-bit_is true = refl
-bit_is false = refl
-
 -- The bits of a comparison of eight numbers with eight others.
 compared : List ℕ → List ℕ → ℕ
 compared xs ys = mask_l (map (top 15) (zip2 (λ a b. cond (leb a b) 65535 0) xs ys)) % 18446744073709551616
@@ -128,7 +113,7 @@ pub compared_bit : (xs ys : List ℕ) → length xs ≡ 8 → length ys ≡ 8 �
     → has_bit (2 ^ k) (mask_l (map (top 15) (zip2 (λ a b. cond (leb a b) 65535 0) xs ys)) % 18446744073709551616)
     ≡ nat_le (get_or xs k 0) (get_or ys k 0)
 unfolding compared
-compared_bit xs ys h1 h2 k h3 = grind (arith, nat_tests, has_bit, compared_is, bit_mask_l, bit_is, get_or-zip2)
+compared_bit xs ys h1 h2 k h3 = grind (arith, nat_tests, has_bit, compared_is, bit_mask_l, get_or-zip2)
 
 -- ---- the lesser
 

@@ -37,7 +37,6 @@ mod PadWords
 mod NormalForms
 mod ItemBytes
 mod Extents
-mod LawLemmas
 mod SpelledBounds
 mod Pieces
 mod SpellingCounts
@@ -61,12 +60,10 @@ mod UnitWritten
 mod SignParts
 mod Frames
 mod SmallestSymbols
-mod SmallestLaws
 mod MarkedCosts
 mod ContentBounds
 mod ContentWritten
 mod Signs
 mod PlainForms
 mod NormalPlain
-mod SmallestContents
 pub mod Exported

@@ -1,13 +1,11 @@
 -- No list of codewords that spells a message is shorter than its cost, whatever the costs are, if they obey the rules
 -- of `AreCosts`.
 use Rattle.dm_words.proofs.Names.{◌≡◌, ◌≢◌, inl, inr, ℕ, zero, suc, ◌+◌, ◌-◌, ◌*◌, ◌/◌, ◌%◌, ◌<◌, ◌≤◌, List, [], ◌∷◌}
-use Rattle.dm_words.proofs.Names.{◌++◌, length, append_assoc, refl, ap, arith, Bool, true, false, cond, ltb}
-use Rattle.dm_words.proofs.Names.{AllByRecursion, nat_le, cases_lt, nat_tests, length-append, Extent, Wide, Item, Byte}
-use Rattle.dm_words.proofs.Names.{Fnc1, CodeSet, Piece, spelled, gathered, whats, AreJoined, IsAsciiUnit, character}
-use Rattle.dm_words.proofs.Names.{digits, fnc1, raised, IsSpelling, IsFiller, nothing, lone_shift, IsDropped, filler}
-use Rattle.dm_words.proofs.Names.{waiting, AreValues, IsRunEnd, unlatch, symbol_end, last_word, IsRun, IsLengthField}
-use Rattle.dm_words.proofs.Names.{to_the_end, short, long, IsSegment, byte_items, IsEdifactRun, IsPart, run, segment}
-use Rattle.dm_words.proofs.Names.{edifact, AreParts, set_values, unit_cost, leave}
+use Rattle.dm_words.proofs.Names.{◌++◌, length, ap, arith, true, cond, ltb, AllByRecursion, nat_le, cases_lt}
+use Rattle.dm_words.proofs.Names.{nat_tests, length-append, Extent, Wide, Item, Byte, CodeSet, Piece, spelled}
+use Rattle.dm_words.proofs.Names.{gathered, whats, IsAsciiUnit, IsSpelling, nothing, lone_shift, IsDropped, AreValues}
+use Rattle.dm_words.proofs.Names.{IsRunEnd, IsRun, to_the_end, short, long, IsSegment, byte_items, IsEdifactRun}
+use Rattle.dm_words.proofs.Names.{IsPart, run, segment, edifact, set_values, unit_cost, leave}
 use Rattle.dm_words.specs.Parts.{ascii}
 use Rattle.dm_words.proofs.AsciiWords.{character_is, digits_are}
 use Rattle.dm_words.proofs.Runs.{pairs_room}
@@ -30,12 +28,7 @@ pub record AreCosts (least : List Item → ℕ) (owed : CodeSet → ℕ → List
 
 -- Leaving costs at least what follows, at most one more, and no more where that is little.
 pub leave_bounds : (limit c : ℕ) → (c ≤ leave limit c) × (leave limit c ≤ 1 + c) × (c ≤ limit → leave limit c ≡ c)
-leave_bounds limit c = by_test (nat_le c limit) refl where
-  by_test : (t : Bool) → nat_le c limit ≡ t
-      → (c ≤ cond t c (1 + c)) × (cond t c (1 + c) ≤ 1 + c) × (c ≤ limit → cond t c (1 + c) ≡ c)
-  by_test true e = (omega arith, omega arith, λ le. refl)
-  by_test false e =
-      (omega arith, omega arith, λ le. absurd (let lt : limit < c = grind (arith, nat_tests) in omega (arith, lt, le)))
+leave_bounds limit c = grind (arith, nat_tests, nat_le, cond)
 
 module _ (least : List Item → ℕ) (owed : CodeSet → ℕ → List Item → ℕ) (costs : AreCosts least owed) where
   -- ---- a unit of ASCII
@@ -45,11 +38,7 @@ module _ (least : List Item → ℕ) (owed : CodeSet → ℕ → List Item → �
 
   unit_lower : (words : List ℕ) (items m : List Item) → IsAsciiUnit words items
       → least (items ++ m) ≤ length words + least m
-  unit_lower words items m (character w b k e i) = rw (e, i) (unit_low b m (character_is w b k).1)
-  unit_lower words items m (digits w n k e i) = rw (e, i) (costs.pair n m (digits_are w n k).1)
-  unit_lower words items m (fnc1 w k e i) = rw (e, i) (costs.unit Fnc1 m)
-  unit_lower words items m (raised s w b k l e i) =
-      rw (e, i) (omega (arith, costs.unit (Byte (b + 128)) m, unit_few (Byte (b + 128))))
+  unit_lower words items m h1 = grind (arith, nat_tests, unit_low, character_is, digits_are, unit_few)
 
   -- ---- a run
 
@@ -135,12 +124,7 @@ module _ (least : List Item → ℕ) (owed : CodeSet → ℕ → List Item → �
 
   -- What is dropped is up to three values.
   dropped_few : (extent : Extent) (set : CodeSet) (vs : List ℕ) → IsDropped extent set vs → length vs ≤ 3
-  dropped_few extent set vs (filler (nothing w)) = rw w (omega arith)
-  dropped_few extent set vs (filler (lone_shift v shift e w)) = rw w (omega arith)
-  dropped_few extent set vs (waiting wide w) = by_filler w.filler w.ended w.whole where
-    by_filler : (f : List ℕ) → IsFiller set f → vs ≡ w.upper ++ f → length vs ≤ 3
-    by_filler f (nothing e) is = rw (is, w.is_upper.whole, e) (omega arith)
-    by_filler f (lone_shift v shift k e) is = rw (is, w.is_upper.whole, e) (omega arith)
+  dropped_few extent set vs h1 = grind (arith, nat_tests, nothing, lone_shift)
 
   -- The values of pairs are paid, and the latch.
   values_lower : (extent : Extent) (set : CodeSet) (vs : List ℕ) (items m : List Item) (p : ℕ)
@@ -164,11 +148,7 @@ module _ (least : List Item → ℕ) (owed : CodeSet → ℕ → List Item → �
   -- The end of a run.
   end_lower : (words after : List ℕ) (c : ℕ) → IsRunEnd words after → c ≤ length after
       → leave 1 c ≤ length words + length after
-  end_lower words after c (unlatch w) le = rw w (omega (arith, (leave_bounds 1 c).1, le))
-  end_lower words after c (symbol_end w a) le =
-      rw (w, a) (let few = le in omega (arith, (leave_bounds 1 c).2 (omega (arith, le, ap length a)), le, ap length a))
-  end_lower words after c (last_word word other w a) le =
-      omega (arith, (leave_bounds 1 c).2 (omega (arith, le, ap length a)), le, ap length a, ap length w)
+  end_lower words after c h1 h2 = grind (arith, nat_tests, leave_bounds)
 
   run_lower : (extent : Extent) (set : CodeSet) (words after : List ℕ) (items m : List Item)
       → IsRun extent set words after items → least m ≤ length after
@@ -187,29 +167,7 @@ module _ (least : List Item → ℕ) (owed : CodeSet → ℕ → List Item → �
       → least m ≤ length after
       → least (items ++ m) ≤ length words + length after
   segment_lower place words after items m s le =
-      let l : length words ≡ 1 + (length s.field + length s.bytes) =
-      omega (
-        arith,
-        ap length s.whole,
-        length-written (place + 1) (s.field ++ s.bytes),
-        length-append s.field s.bytes,
-      ) in
-      let c = by_field s.field (length s.bytes) s.counted refl in
-      rw s.items_are (omega (arith, l, c, le)) where
-        by_field : (field : List ℕ) (n : ℕ) → IsLengthField field n after → n ≡ length s.bytes
-            → least (byte_items s.bytes ++ m) ≤ 1 + length field + n + length after
-        by_field field n (to_the_end f a) e =
-            omega (arith, costs.last_segment s.bytes m (omega (arith, le, ap length a)), ap length f, e)
-        by_field field n (short first some few f is) e =
-            omega (
-              arith,
-              costs.short_segment s.bytes m (omega (arith, some, e, is)) (omega (arith, few, e, is)),
-              ap length f,
-              e,
-              le,
-            )
-        by_field field n (long first second big small few f is) e =
-            omega (arith, costs.any_segment s.bytes m (omega (arith, big, e, is)), ap length f, e, le)
+      grind (arith, nat_tests, length-written, length-append, byte_items, to_the_end, short, long)
 
   -- ---- all parts
 
@@ -227,21 +185,3 @@ module _ (least : List Item → ℕ) (owed : CodeSet → ℕ → List Item → �
     part_lower other place words after items m (run set r) le = run_lower extent set words after items m r le
     part_lower other place words after items m (segment s) le = segment_lower place words after items m s le
     part_lower other place words after items m (edifact wide r) le = other words after items m wide r le
-
-    joined_lower : IsEdifactLower → (place : ℕ) (ps : List (Piece (List Item))) (after : List ℕ)
-        → AreJoined (IsPart extent) place ps after → least [] ≤ 0 → least (gathered ps) ≤ length (spelled ps ++ after)
-    joined_lower other place [] after h none = omega (arith, none)
-    joined_lower other place (p ∷ ps) after h none =
-        let rest = joined_lower other (place + length p.words) ps after h.1 none in
-        let one = part_lower other place p.words (spelled ps ++ after) p.what (gathered ps) h.0 rest in
-        omega (
-          arith,
-          ap length (append_assoc p.words (spelled ps) after),
-          length-append p.words (spelled ps ++ after),
-        )
-
-    -- No parts are shorter than the cost of their items.
-    pub parts_lower : IsEdifactLower → (place : ℕ) (words : List ℕ) (items : List Item)
-        → AreParts extent place words items → least [] ≤ 0 → least items ≤ length words
-    parts_lower other place words items a none =
-        rw (a.items_are, a.whole) (joined_lower other place a.parts a.after a.joined none)

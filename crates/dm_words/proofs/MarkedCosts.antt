@@ -1,15 +1,15 @@
 -- What items with marks cost, from mark to mark.
 use Rattle.dm_words.proofs.Names.{All, All-take, All-drop, ◌≡◌, ℕ, zero, suc, ◌+◌, ◌-◌, ◌*◌, ◌<◌, ◌≤◌, List, [], ◌∷◌}
-use Rattle.dm_words.proofs.Names.{◌++◌, length, take, drop, get_or, refl, sym, ap, subst, ◌∙◌, arith, inl, inr}
+use Rattle.dm_words.proofs.Names.{◌++◌, length, take, drop, get_or, sym, ap, subst, ◌∙◌, arith}
 use Rattle.dm_words.proofs.Names.{length-append, set, cases_lt, get_or-set_same, get_or-set_other, macro_header}
 use Rattle.dm_words.proofs.Names.{macro_trailer, macro_text, most_behind, at_drop_more, drop-drop, take-append-drop}
 use Rattle.dm_words.proofs.Names.{take_rest, length-take, length-drop, All-append, take-suc, Item, Mark, Wide, eci_word}
 use Rattle.dm_words.proofs.Names.{designator, most_assigned, AreMarks, mark_words, IsItem, IsMessage, at_end}
 use Rattle.dm_words.proofs.Names.{before_words, parts_cost, marked_cost, behind_first, first_text, first_end}
-use Rattle.std.proofs.Math.Seq.{take-length}
 use Rattle.dm_words.proofs.ContentForms.{marks_within}
 use Rattle.dm_words.proofs.Marks.{lower}
 use Rattle.dm_words.proofs.Plans.{cost_most}
+use Rattle.dm_words.proofs.Names.{nat_tests}
 
 -- A designator has at most three codewords.
 pub designator_few : (number : ℕ) → length (designator number) ≤ 3
@@ -34,8 +34,7 @@ marked_most seen items (m ∷ marks) =
 -- The cost is that of the items before the first mark, and of what follows them.
 pub cost_is : (seen : ℕ) (items : List Item) (marks : List Mark) → marked_cost seen items marks
     ≡ parts_cost (before_words (behind_first seen items marks)) (first_text seen items marks)
-cost_is seen items [] = refl
-cost_is seen items (m ∷ marks) = refl
+cost_is seen items marks = grind (arith, nat_tests)
 
 -- Marks begin at a place or behind it.
 abbrev pub StartAt : ℕ → List Mark → Type 0
@@ -44,21 +43,13 @@ StartAt place (m ∷ marks) = place ≤ m.place
 
 -- Marks in order do.
 pub start_at : (place most : ℕ) (marks : List Mark) → AreMarks place most marks → StartAt place marks
-start_at place most [] are = tt
-start_at place most (m ∷ marks) are = are.0
+start_at place most marks h1 = grind (arith, nat_tests)
 
 -- Of marks in order the further ones are in order.
 marks_drop : (least most k : ℕ) (marks : List Mark) → AreMarks least most marks → AreMarks least most (drop k marks)
 marks_drop least most zero marks are = are
 marks_drop least most (suc k) [] are = are
-marks_drop least most (suc k) (m ∷ marks) are =
-    lower m.place least most (drop k marks) (marks_drop m.place most k marks are.2) are.0
-
--- From a further place on, which no mark stands before, the same follows the items before the first mark.
-behind_shift : (seen place : ℕ) (items : List Item) (marks : List Mark) → seen ≤ place → StartAt place marks
-    → behind_first place (drop (place - seen) items) marks ≡ behind_first seen items marks
-behind_shift seen place items [] le starts = refl
-behind_shift seen place items (m ∷ marks) le starts = grind (arith, mark_words, marked_cost, drop-drop)
+marks_drop least most (suc k) (m ∷ marks) are = grind (arith, nat_tests, lower, marks_drop m.place most k marks are.2)
 
 -- The items before the first mark, from a further place on.
 text_shift : (seen place : ℕ) (items : List Item) (marks : List Mark) → seen ≤ place → StartAt place marks
@@ -72,19 +63,12 @@ cost_from : (seen place : ℕ) (items : List Item) (marks : List Mark) → seen 
     ≡ parts_cost (before_words (behind_first seen items marks))
     (take (first_end seen items marks - (place - seen)) (drop (place - seen) items))
 cost_from seen place items marks h1 h2 =
-    grind (arith, behind_first, cost_is, parts_cost, before_words, text_shift, first_end, behind_shift)
+    grind (arith, cost_is, text_shift, nat_tests, drop-drop)
 
 -- They end no further in front than at a place that no mark stands before.
 end_from : (seen place : ℕ) (items : List Item) (marks : List Mark) → AreMarks place (seen + length items) marks
     → place - seen ≤ first_end seen items marks
-end_from seen place items [] are = omega (arith, are)
-end_from seen place items (m ∷ marks) are = omega (arith, are.0)
-
--- They are these.
-pub text_is : (seen : ℕ) (items : List Item) (marks : List Mark) → take (first_end seen items marks) items
-    ≡ first_text seen items marks
-text_is seen items [] = take-length items
-text_is seen items (m ∷ marks) = refl
+end_from seen place items marks h1 = grind (arith, nat_tests)
 
 -- Items are ones where those up to an index and those behind it are.
 pub all_items : (items : List Item) (end : ℕ) → IsMessage (take end items) → IsMessage (drop end items)
@@ -218,14 +202,7 @@ pub behind_turn : (seen : ℕ) (items : List Item) (marks : List Mark) (k cost :
     → (i : ℕ) → k - 1 ≤ i → i < length marks
     → get_or (set behind (k - 1) cost) i 0 ≡ behind_first seen items (drop i marks)
 behind_turn seen items marks k cost behind some within room is others i from to =
-    elim (cases_lt (k - 1) i) [
-      | inl later ↦ get_or-set_other behind (k - 1) i cost 0 (omega (arith, later))
-          ∙ others i (omega (arith, later, some)) to
-      | inr le ↦ (let e : k - 1 ≡ i = omega (arith, le, from) in
-          ap (λ (j : ℕ). get_or (set behind (k - 1) cost) j 0) (sym e)
-          ∙ get_or-set_same behind (k - 1) cost 0 (omega (arith, some, within, room)) ∙ is
-          ∙ ap (λ (j : ℕ). behind_first seen items (drop j marks)) e)
-    ]
+    grind (arith, nat_tests, cases_lt, get_or-set_other, set, get_or-set_same, behind_first)
 
 -- What follows the items before a mark is little.
 pub behind_few : (seen : ℕ) (items : List Item) (marks : List Mark) (k from place number behind : ℕ)
@@ -237,8 +214,7 @@ behind_few seen items marks k from place number behind f few few_marks lt =
 -- What stands between a macro's header and its trailer is an item of the macro, and has no more items.
 pub inner_few : (items inner : List Item) → inner ≡ take (length items - 2 - 7) (drop 7 items)
     → length inner ≤ length items
-inner_few items inner is =
-    omega (arith, ap length is, length-take (length items - 2 - 7) (drop 7 items), length-drop 7 items)
+inner_few items inner is = grind (arith, nat_tests, length-take, length-drop)
 
 pub inner_items : (items inner : List Item) → inner ≡ take (length items - 2 - 7) (drop 7 items)
     → All IsItem items → All IsItem inner

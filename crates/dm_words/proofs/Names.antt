@@ -32,9 +32,8 @@ pub use Rattle.dm_words.specs.Pads.{further_pads, padded, pads}
 pub use Rattle.dm_words.specs.Parts.{AreParts, IsEnd, IsPart, edifact, pad, run, segment}
 pub use Rattle.dm_words.specs.Plain.{FramesNoFnc1, IsPlainForm, IsPlainPart, IsPlainSaid}
 pub use Rattle.dm_words.specs.Runs.{IsPair, IsRun, IsRunEnd, last_word, symbol_end, unlatch}
-pub use Rattle.dm_words.specs.Smallest.{ArePads, IsPlainest, IsSmaller, IsSmallestFor, IsTaken, SpellsThenPads}
-pub use Rattle.dm_words.specs.Smallest.{macro_padded, plain_padded}
-pub use Rattle.dm_words.specs.SmallestContents.{IsSmallestContentResult, SaysThenPads}
+pub use Rattle.dm_words.specs.Smallest.{ArePads, IsPlainestContent, IsSmaller, IsSmallestContentResult, IsTaken}
+pub use Rattle.dm_words.specs.Smallest.{SaysThenPads}
 pub use Rattle.dm_words.specs.Spells.{Spells}
 pub use Rattle.dm_words.specs.Symbology.{IsFnc1Number, IsIdentifier, marks_number}
 pub use Rattle.dm_words.specs.Values.{AreValues, IsCharacter, IsDropped, IsFiller, IsRest, IsRunValue, IsShifted}
@@ -90,7 +89,7 @@ pub use Rattle.dm_words.specs.inner.Scan.Prefixes.{pairs_in, part_by, run_fault,
 pub use Rattle.dm_words.specs.inner.Scan.Results.{item_words, unit_items, unit_words}
 pub use Rattle.dm_words.specs.inner.Scan.Walk.{Step, Stops, Takes, Walked, and_before, flat}
 pub use Rattle.dm_words.specs.inner.Signs.{KeepsSign, PassesSign, sign_words}
-pub use Rattle.dm_words.specs.inner.Ways.{IsLeastCost, IsMacroOf, inner_text}
+pub use Rattle.dm_words.specs.inner.Ways.{AreWritten, IsLeastCost, IsMacroOf, inner_text}
 pub use Rattle.dm_words.specs.inner.Written.{ArePartsWritten, ArePushed, IsEdifactEnded, IsGroupPushed, IsItemPushed}
 pub use Rattle.dm_words.specs.inner.Written.{IsPartWritten, NoUnlatchFirst, Waiting, is_empty, part_values}
 pub use Rattle.dm_words.specs.inner.Written.{waiting_values}

@@ -1,21 +1,19 @@
 -- The normal form of a message spells it.
 use Rattle.dm_words.proofs.Names.{◌≡◌, ◌⊎◌, inl, inr, ℕ, ◌+◌, ◌-◌, ◌*◌, ◌/◌, ◌%◌, ◌<◌, ◌≤◌, List, [], ◌∷◌, ◌++◌, length}
 use Rattle.dm_words.proofs.Names.{map, take, drop, get_or, append_assoc, add-one, refl, sym, ap, subst, ◌∙◌, arith}
-use Rattle.dm_words.proofs.Names.{Bool, true, false, not, cond, ltb, ◌&&◌, ◌==◌, cases_lt, nat_tests, append-nil}
+use Rattle.dm_words.proofs.Names.{Bool, true, false, not, cond, ltb, ◌&&◌, cases_lt, nat_tests, append-nil}
 use Rattle.dm_words.proofs.Names.{at_drop_more, length-append, length-map, map-append, take-suc, recursion_from_All}
-use Rattle.dm_words.proofs.Names.{All-from_recursion, Extent, Item, Byte, Fnc1, Profile, Ascii, Shorter, Piece, byte_of}
+use Rattle.dm_words.proofs.Names.{Extent, Item, Byte, Fnc1, Profile, Ascii, Shorter, Piece, byte_of}
 use Rattle.dm_words.proofs.Names.{IsItem, IsMessage, byte_items, most_data, is_digit, digit_pair, single, ascii, pads}
 use Rattle.dm_words.proofs.Names.{padded, written, randomised, AreBytes, IsLengthField, short, long, IsSegment}
 use Rattle.dm_words.proofs.Names.{has_fnc1, length_numbers, one_segment, shorter, normal_form, segment, Spells}
-use Rattle.dm_words.proofs.Names.{AreCodewords}
-use Rattle.std.proofs.Common.{is_lt, nat_cmp, Less, Equal, Greater}
+use Rattle.std.proofs.Common.{is_lt, nat_cmp}
 use Rattle.std.specs.Ordering.{ord_max}
 use Rattle.std.proofs.lemmas.Bool.{cases_Bool}
 use Rattle.dm_words.proofs.SpelledContents.{parts_spell}
 use Rattle.dm_words.proofs.Segments.{length-written, written-append}
 use Rattle.dm_words.proofs.AsciiWords.{AreItems, pads_end, ascii_bytes}
 use Rattle.dm_words.proofs.AsciiWords as form
-use Rattle.dm_words.proofs.PadWords.{length-padded, padded_bytes}
 
 -- ---- the length field
 
@@ -93,8 +91,7 @@ segment_of m = one_segment (map byte_of m)
 -- The segment is taken where it can be and is shorter.
 pub takes_segment : (m : List Item) → has_fnc1 m ≡ false → length (segment_of m) < length (ascii m) → shorter m
     ≡ segment_of m
-takes_segment m none lt = let t : ltb (length (segment_of m)) (length (ascii m))
-    ≡ true = grind (arith, nat_tests) in rw (none, t) refl
+takes_segment m none lt = grind (arith, nat_tests, ltb, segment_of, ascii)
 
 -- ASCII is taken where there is an FNC1.
 pub takes_ascii_with_fnc1 : (m : List Item) → has_fnc1 m ≡ true → shorter m ≡ ascii m
@@ -112,13 +109,13 @@ takes_ascii m le =
     by_test false t = rw t refl
 
 -- The segment is taken for these reasons.
-record IsSegmentTaken (m : List Item) : Type 0 where
-  none : has_fnc1 m ≡ false
-  less : length (segment_of m) < length (ascii m)
-  is : shorter m ≡ segment_of m
+pub record IsSegmentTaken (m : List Item) : Type 0 where
+  pub none : has_fnc1 m ≡ false
+  pub less : length (segment_of m) < length (ascii m)
+  pub is : shorter m ≡ segment_of m
 
 -- Either the segment or ASCII is taken.
-segment_or_ascii : (m : List Item) → IsSegmentTaken m ⊎ (shorter m ≡ ascii m)
+pub segment_or_ascii : (m : List Item) → IsSegmentTaken m ⊎ (shorter m ≡ ascii m)
 segment_or_ascii m =
     elim (cases_Bool (has_fnc1 m)) [
       | inl some ↦ inr (takes_ascii_with_fnc1 m some)
@@ -131,9 +128,8 @@ segment_or_ascii m =
 -- ---- the laws
 
 -- A message whose segment is taken isn't empty.
-some_items : (m : List Item) → length (segment_of m) < length (ascii m) → 0 < length m
-some_items [] lt = absurd (omega arith)
-some_items (i ∷ m) lt = omega arith
+pub some_items : (m : List Item) → length (segment_of m) < length (ascii m) → 0 < length m
+some_items m h1 = grind (arith, nat_tests)
 
 -- The shorter form with pads spells the message.
 shorter_spells : (extent : Extent) (m : List Item) (count : ℕ) → IsMessage m → length (shorter m) ≤ count
@@ -157,11 +153,6 @@ pub normal_form_spells : (extent : Extent) (profile : Profile) (m : List Item) (
 normal_form_spells extent Ascii m count fit le most = form.ascii_spells extent m count (recursion_from_All IsItem m fit)
 normal_form_spells extent Shorter m count fit le most = shorter_spells extent m count fit le most
 
--- The normal form with pads up to a count has that many codewords.
-pub normal_form_count : (profile : Profile) (m : List Item) (count : ℕ) → length (normal_form profile m) ≤ count
-    → length (padded (normal_form profile m) count) ≡ count
-normal_form_count profile m count le = length-padded (normal_form profile m) count le
-
 -- What is written for values is bytes.
 written_bytes : (place : ℕ) (vs : List ℕ) → AreBytes (written place vs)
 written_bytes place [] = tt
@@ -173,19 +164,7 @@ segment_bytes bytes = (omega arith, written_bytes 2 (length_numbers (length byte
 
 -- The codewords of the normal form are bytes.
 pub normal_form_bytes : (profile : Profile) (m : List Item) → AreItems m → AreBytes (normal_form profile m)
-normal_form_bytes Ascii m fit = ascii_bytes m fit
-normal_form_bytes Shorter m fit =
-    elim (segment_or_ascii m) [
-      | inl s ↦ subst AreBytes (sym s.is) (segment_bytes (map byte_of m))
-      | inr e ↦ subst AreBytes (sym e) (ascii_bytes m fit)
-    ]
-
--- The codewords of the normal form with pads are bytes.
-pub normal_form_codewords : (profile : Profile) (m : List Item) (count : ℕ) → IsMessage m
-    → AreCodewords (padded (normal_form profile m) count)
-normal_form_codewords profile m count fit =
-    All-from_recursion (λ w. w < 256) (padded (normal_form profile m) count)
-    (padded_bytes (normal_form profile m) count (normal_form_bytes profile m (recursion_from_All IsItem m fit)))
+normal_form_bytes profile m h1 = grind (arith, nat_tests, ascii_bytes, segment_or_ascii, segment_bytes, map, byte_of)
 
 -- The shorter form isn't longer than ASCII.
 pub shorter_than_ascii : (m : List Item) → length (shorter m) ≤ length (ascii m)
@@ -204,13 +183,7 @@ items_are_bytes (b ∷ bytes) = ap (λ (r : List ℕ). b ∷ r) (items_are_bytes
 -- The shorter form of bytes isn't longer than one segment.
 pub shorter_than_segment : (bytes : List ℕ) → length (shorter (byte_items bytes)) ≤ length (one_segment bytes)
 shorter_than_segment bytes =
-    let m = byte_items bytes in
-    let same : length (segment_of m) ≡ length (one_segment bytes) =
-    ap (λ (r : List ℕ). length (one_segment r)) (items_are_bytes bytes) in
-    elim (cases_lt (length (segment_of m)) (length (ascii m))) [
-      | inl lt ↦ omega (arith, ap length (takes_segment m (no_fnc1 bytes) lt), same)
-      | inr le ↦ omega (arith, le, ap length (takes_ascii m le), same)
-    ]
+    grind (arith, nat_tests, segment_of, items_are_bytes, cases_lt, takes_segment, no_fnc1, takes_ascii)
 
 -- A byte by itself has at least one codeword.
 some_single : (b : ℕ) → 0 < length (single b)
@@ -218,12 +191,7 @@ some_single b = grind (arith, nat_tests)
 
 -- A byte by itself has one codeword below 128, and else two.
 few_single : (b : ℕ) → (length (single b) ≤ 2) × (b < 128 → length (single b) ≤ 1)
-few_single b = by_test (ltb b 128) refl where
-  by_test : (t : Bool) → ltb b 128 ≡ t
-      → (length (cond t ((b + 1) ∷ []) (235 ∷ (b - 127) ∷ [])) ≤ 2) × (b < 128
-      → length (cond t ((b + 1) ∷ []) (235 ∷ (b - 127) ∷ [])) ≤ 1)
-  by_test true e = (omega arith, λ lt. omega arith)
-  by_test false e = (omega arith, λ lt. absurd (let le : 128 ≤ b = grind (arith, nat_tests) in omega (arith, le, lt)))
+few_single b = grind (arith, nat_tests, ltb, cond)
 
 -- With one item before them, the ASCII codewords of items are no fewer, and at most two more, or one more where the
 -- byte of that item is below 128.
@@ -234,35 +202,14 @@ pub record IsLonger (i : Item) (m : List Item) : Type 0 where
 
 -- A byte that stands by itself makes the ASCII form of the items behind it so much longer.
 longer_alone : (b : ℕ) (m : List Item) → ascii (Byte b ∷ m) ≡ single b ++ ascii m → IsLonger (Byte b) m
-longer_alone b m e =
-    let n = length-append (single b) (ascii m) in
-    let all : length (ascii (Byte b ∷ m)) ≡ length (single b) + length (ascii m) = ap length e ∙ n in
-    let f = few_single b in
-    record {
-      no_fewer = omega (arith, all);
-      two_more = omega (arith, all, f.0);
-      one_more = λ lt. omega (arith, all, f.1 lt);
-    }
+longer_alone b m e = grind (arith, nat_tests, length-append, single, ascii, few_single)
 
 -- One more item makes the ASCII form of the items behind it so much longer.
 pub longer : (i : Item) (m : List Item) → IsLonger i m
 longer Fnc1 m = record { no_fewer = omega arith; two_more = omega arith; one_more = λ lt. omega arith }
 longer (Byte b) [] = longer_alone b [] (sym (append-nil (single b)))
 longer (Byte b) (Fnc1 ∷ m) = longer_alone b (Fnc1 ∷ m) refl
-longer (Byte b) (Byte c ∷ m) = both (is_digit b) (is_digit c) refl refl (longer (Byte c) m) where
-  both : (s t : Bool) → is_digit b ≡ s → is_digit c ≡ t → IsLonger (Byte c) m → IsLonger (Byte b) (Byte c ∷ m)
-  both true true es et h =
-      let lt : c < 128 = grind (arith, nat_tests) in
-      let pair : ascii (Byte b ∷ Byte c ∷ m) ≡ digit_pair b c ∷ ascii m = rw (es, et) refl in
-      let all : length (ascii (Byte b ∷ Byte c ∷ m)) ≡ 1 + length (ascii m) = ap length pair ∙ (omega arith) in
-      record {
-        no_fewer = omega (arith, all, h.one_more lt);
-        two_more = omega (arith, all, h.no_fewer);
-        one_more =
-            λ l. omega (arith, all, h.no_fewer);
-      }
-  both true false es et h = longer_alone b (Byte c ∷ m) (rw (es, et) refl)
-  both false t es et h = longer_alone b (Byte c ∷ m) (rw es refl)
+longer (Byte b) (Byte c ∷ m) = grind (arith, nat_tests, is_digit, ascii, digit_pair, longer_alone, longer (Byte c) m)
 
 -- The ASCII form has at most two codewords for each item.
 pub two_words : (m : List Item) → length (ascii m) ≤ 2 * length m
@@ -271,11 +218,7 @@ two_words (i ∷ m) = omega (arith, (longer i m).two_more, two_words m)
 
 -- Where the greater of two numbers is below a third, both are.
 both_below : (a b n : ℕ) → ord_max nat_cmp a b < n → (a < n) × (b < n)
-both_below a b n below = by_test (ltb b a) (b == a) refl below where
-  by_test : (t s : Bool) → ltb b a ≡ t → cond (is_lt (cond t Less (cond s Equal Greater))) a b < n → (a < n) × (b < n)
-  by_test true s e l = (l, (let lt : b < a = grind (arith, nat_tests) in omega (arith, lt, l)))
-  by_test false true e l = ((let le : a ≤ b = grind (arith, nat_tests) in omega (arith, le, l)), l)
-  by_test false false e l = ((let le : a ≤ b = grind (arith, nat_tests) in omega (arith, le, l)), l)
+both_below a b n below = grind (arith, nat_tests, ltb, cond, is_lt)
 
 -- A turn of the loop that looks for the greatest byte: where this is below 128, each item so far makes the ASCII form
 -- longer by at most one codeword.
@@ -297,12 +240,8 @@ two_items (Fnc1 ∷ m) = omega (arith, two_items m)
 two_items (Byte b ∷ []) = omega (arith, some_single b)
 two_items (Byte b ∷ Fnc1 ∷ m) =
     omega (arith, some_single b, length-append (single b) (ascii (Fnc1 ∷ m)), two_items (Fnc1 ∷ m))
-two_items (Byte b ∷ Byte c ∷ m) = both (is_digit b && is_digit c) (two_items m) (two_items (Byte c ∷ m))
-  where
-    both : (t : Bool) → length m ≤ 2 * length (ascii m) → length (Byte c ∷ m) ≤ 2 * length (ascii (Byte c ∷ m))
-        → length (Byte b ∷ Byte c ∷ m) ≤ 2 * length (cond t (digit_pair b c ∷ ascii m) (single b ++ ascii (Byte c ∷ m)))
-    both true h k = omega (arith, h)
-    both false h k = omega (arith, k, some_single b, length-append (single b) (ascii (Byte c ∷ m)))
+two_items (Byte b ∷ Byte c ∷ m) =
+    grind (arith, nat_tests, some_single, length-append, two_items m, two_items (Byte c ∷ m))
 
 -- A message has at most two items for each codeword of its normal form.
 pub normal_form_items : (profile : Profile) (m : List Item) → length m ≤ 2 * length (normal_form profile m)
@@ -354,15 +293,13 @@ chosen_form : (profile : Profile) (m : List Item) (takes marked : Bool) (count w
     → (profile ≡ Shorter → takes ≡ (not marked && ltb count words)) → marked ≡ has_fnc1 m → count
     ≡ length (segment_of m) → words ≡ length (ascii m)
     → normal_form profile m ≡ cond takes (segment_of m) (ascii m)
-chosen_form Ascii m takes marked count words never when mark is lengths = rw (never refl) refl
-chosen_form Shorter m takes marked count words never when mark is lengths = rw (when refl, mark, is, lengths) refl
+chosen_form profile m takes marked count words h1 h2 h3 h4 h5 = grind (arith, nat_tests)
 
 -- The form that was chosen has this length.
 chosen_length : (takes : Bool) (m : List Item) (count words : ℕ) → count ≡ length (segment_of m) → words
     ≡ length (ascii m)
     → cond takes count words ≡ length (cond takes (segment_of m) (ascii m))
-chosen_length true m count words is lengths = is
-chosen_length false m count words is lengths = lengths
+chosen_length takes m count words h1 h2 = grind (arith, nat_tests)
 
 -- The normal form and its length are known from the length of the segment and from what was found of the ASCII form.
 pub form_known : (profile : Profile) (m : List Item) (takes marked : Bool) (count words : ℕ)
@@ -372,6 +309,4 @@ pub form_known : (profile : Profile) (m : List Item) (takes marked : Bool) (coun
     → (normal_form profile m ≡ cond takes (segment_of m) (ascii m)) × (cond takes count words
     ≡ length (normal_form profile m))
 form_known profile m takes marked count words never when mark counted lengths =
-    let is : count ≡ length (segment_of m) = counted ∙ sym (length-segment_of m) in
-    let form = chosen_form profile m takes marked count words never when mark is lengths in
-    (form, chosen_length takes m count words is lengths ∙ ap length (sym form))
+    grind (arith, nat_tests, segment_of, length-segment_of, chosen_form, chosen_length)

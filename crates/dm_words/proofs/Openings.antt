@@ -1,8 +1,8 @@
 -- The opening that is found first is the one of the definition.
 use Rattle.dm_words.proofs.Names.{drop-cons, ◌≡◌, ℕ, zero, suc, ◌+◌, ◌≤◌, List, [], ◌∷◌, ◌++◌, length, drop, refl, sym}
-use Rattle.dm_words.proofs.Names.{ap, subst, ◌∙◌, arith, Bool, true, false, cond, Option, Some, None, inl, inr, ◌==◌}
+use Rattle.dm_words.proofs.Names.{ap, subst, ◌∙◌, arith, Bool, true, false, cond, Option, Some, None, inl, ◌==◌}
 use Rattle.dm_words.proofs.Names.{◌&&◌, slice_get, nat_tests, Codeword, CodeSet, Extent, Usual, Wide, Head, Opened}
-use Rattle.dm_words.proofs.Names.{Opening, Plain, codeword_of, unlatch_word, SpellsHead, programming, appended}
+use Rattle.dm_words.proofs.Names.{Opening, Plain, codeword_of, unlatch_word, SpellsHead}
 use Rattle.dm_words.proofs.Names.{BeginsNoHead, AreEmptyRuns, AreFrame, BeginsFrame, BeginsWithHeadWord, IsOpening}
 use Rattle.dm_words.proofs.Names.{headed, framed, plain, is_one_word, append_by, first_head, head_length, moved, opened}
 use Rattle.std.proofs.lemmas.Option.{slice_get_within, get_or_from_slice_get}
@@ -46,16 +46,7 @@ one_macro w d more e = record {
 -- A codeword that meets the test is a latch.
 latch_is : (k : Option Codeword) → is_latch k ≡ true → (set : CodeSet) × (k ≡ Some (codeword.Latch set))
 latch_is (Some (codeword.Latch set)) e = (set, refl)
-latch_is (Some (codeword.Character b)) e = absurd cc
-latch_is (Some codeword.Pad) e = absurd cc
-latch_is (Some (codeword.Digits n)) e = absurd cc
-latch_is (Some codeword.Base256) e = absurd cc
-latch_is (Some codeword.Fnc1) e = absurd cc
-latch_is (Some codeword.Edifact) e = absurd cc
-latch_is (Some codeword.UpperShift) e = absurd cc
-latch_is (Some (codeword.Macro d)) e = absurd cc
-latch_is (Some codeword.LeftOut) e = absurd cc
-latch_is None e = absurd cc
+latch_is k e = absurd cc
 
 -- An empty run before a frame makes a frame.
 one_more_run : (w n : ℕ) (more : List ℕ) (o : Option Frame) → is_latch (codeword_of w) ≡ true → n ≡ unlatch_word
@@ -81,10 +72,7 @@ one_more_run w n more (Some f) latch is j =
 frame_judged : (words : List ℕ) → FrameJudged words (first_frame words)
 unfolding first_frame
 frame_judged [] = tt
-frame_judged (w ∷ []) = by_digit (digit_by (codeword_of w)) refl where
-  by_digit : (o : Option ℕ) → digit_by (codeword_of w) ≡ o → FrameJudged (w ∷ []) (frame_by o None)
-  by_digit None e = tt
-  by_digit (Some d) e = one_macro w d [] e
+frame_judged (w ∷ []) = grind (arith, nat_tests, digit_by, codeword_of, frame_by, one_macro)
 frame_judged (w ∷ n ∷ more) =
     by_digit (digit_by (codeword_of w)) (is_latch (codeword_of w)) (n == unlatch_word) refl refl refl
     (frame_judged more) where
@@ -109,9 +97,7 @@ macro_complete [] [] word digit are k = rw k refl
 macro_complete [] (n ∷ more) word digit are k = rw k refl
 macro_complete (l ∷ []) more word digit are k = absurd are
 macro_complete (l ∷ u ∷ runs) more word digit are k =
-    let rest = macro_complete runs more word digit are.2 k in
-    rw (are.0.1, are.1, rest)
-    (ap (λ (c : ℕ). Some (let f : Frame = record { count = c; digit = digit } in f)) (omega arith))
+    grind (arith, nat_tests, macro_complete runs more word digit are.2 k)
 
 -- A frame that is there is found.
 frame_complete : (words more : List ℕ) (digit : ℕ) → AreFrame words digit → first_frame (words ++ more)
@@ -208,34 +194,20 @@ record OpensOtherwise (words : List ℕ) : Type 0 where
 -- A codeword that isn't left out is neither structured append nor reader programming.
 opens_otherwise : (w : ℕ) (more : List ℕ) (k : Codeword) → codeword_of w ≡ Some k → (k ≡ codeword.LeftOut → ⊥)
     → OpensOtherwise (w ∷ more)
-opens_otherwise w more k e not = by_test (w == 234) (w == 233) refl refl where
-  left_out : codeword_of w ≡ Some codeword.LeftOut → ⊥
-  left_out l = (let s : Some k ≡ Some codeword.LeftOut = sym e ∙ l in let t : k ≡ codeword.LeftOut = cc in not t)
-
-  by_test : (p a : Bool) → (w == 234) ≡ p → (w == 233) ≡ a → OpensOtherwise (w ∷ more)
-  by_test true a ep ea = (let is : w ≡ 234 = grind (arith, nat_tests) in absurd (left_out (ap codeword_of is)))
-  by_test false true ep ea = (let is : w ≡ 233 = grind (arith, nat_tests) in absurd (left_out (ap codeword_of is)))
-  by_test false false ep ea = record { head = rw (ep, ea) refl; append = ea }
+opens_otherwise w more k e not = grind (arith, nat_tests, codeword_of)
 
 -- A frame opens so.
 frame_opens : (runs more : List ℕ) (word digit : ℕ) → AreEmptyRuns runs → codeword_of word
     ≡ Some (codeword.Macro digit) → OpensOtherwise ((runs ++ word ∷ []) ++ more)
-frame_opens [] more word digit are k = opens_otherwise word more (codeword.Macro digit) k (λ e. cc)
-frame_opens (l ∷ []) more word digit are k = absurd are
-frame_opens (l ∷ u ∷ runs) more word digit are k =
-    opens_otherwise l (u ∷ ((runs ++ word ∷ []) ++ more)) (codeword.Latch are.0.0) are.0.1 (λ e. cc)
+frame_opens runs more word digit h1 h2 = grind (arith, nat_tests, opens_otherwise)
 
 -- A head has as many codewords as it takes.
 head_count : (words : List ℕ) (said : Head) → SpellsHead words said → head_length said ≡ length words
-head_count words said (programming e is) = rw (e, is) refl
-head_count words said (appended q s right i n e is) = rw (e, is) refl
+head_count words said h1 = grind (arith, nat_tests)
 
 -- A head begins with one of its two codewords.
 head_begins : (words more : List ℕ) (said : Head) → SpellsHead words said → BeginsWithHeadWord (words ++ more)
-head_begins words more said (programming e is) =
-    rw e (record { word = 234; more = more; is_head_word = inr refl; whole = refl })
-head_begins words more said (appended q s right i n e is) =
-    rw e (record { word = 233; more = q ∷ s.file_high ∷ s.file_low ∷ more; is_head_word = inl refl; whole = refl })
+head_begins words more said h1 = grind (arith, nat_tests)
 
 -- Words that begin with neither a head nor a frame open with nothing.
 plain_by : (words : List ℕ) (h : Option Head) (a : Bool) (f : Option Frame) → first_head words ≡ h
@@ -354,31 +326,17 @@ none_at_end words at total h1 h2 = grind (arith, nat_tests, at_first)
 
 -- A codeword that is a part by itself is neither a macro nor a latch.
 alone_is : (k : Option Codeword) → is_one_word k ≡ true → (digit_by k ≡ None) × (is_latch k ≡ false)
-alone_is (Some (codeword.Character b)) e = (refl, refl)
-alone_is (Some (codeword.Digits n)) e = (refl, refl)
-alone_is (Some codeword.Pad) e = absurd cc
-alone_is (Some (codeword.Latch set)) e = absurd cc
-alone_is (Some codeword.Base256) e = absurd cc
-alone_is (Some codeword.Fnc1) e = absurd cc
-alone_is (Some codeword.UpperShift) e = absurd cc
-alone_is (Some codeword.Edifact) e = absurd cc
-alone_is (Some (codeword.Macro d)) e = absurd cc
-alone_is (Some codeword.LeftOut) e = absurd cc
-alone_is None e = absurd cc
+alone_is k h1 = grind (arith, nat_tests)
 
 -- It begins no frame.
 no_frame_alone : (w : ℕ) (more : List ℕ) → digit_by (codeword_of w) ≡ None → is_latch (codeword_of w) ≡ false
     → first_frame (w ∷ more) ≡ None
 unfolding first_frame
-no_frame_alone w [] d l = ap (λ (o : Option ℕ). frame_by o None) d
-no_frame_alone w (next ∷ more) d l = cc
+no_frame_alone w more h1 h2 = grind (arith, nat_tests, frame_by)
 
 -- It isn't structured append or reader programming.
 alone_other : (w v : ℕ) → is_one_word (codeword_of w) ≡ true → is_one_word (codeword_of v) ≡ false → w ≡ v → ⊥
 alone_other w v e f is = (let g : true ≡ false = sym e ∙ ap (λ (x : ℕ). is_one_word (codeword_of x)) is ∙ f in cc)
-
-no_append_alone : (w : ℕ) → (w ≡ 233 → ⊥) → (w == 233) ≡ false
-no_append_alone w h1 = grind (arith, nat_tests)
 
 no_head_alone : (w : ℕ) (more : List ℕ) → (w ≡ 233 → ⊥) → (w ≡ 234 → ⊥) → first_head (w ∷ more) ≡ None
 no_head_alone w more h1 h2 = grind (arith, nat_tests, append_by, slice_get)
@@ -386,12 +344,5 @@ no_head_alone w more h1 h2 = grind (arith, nat_tests, append_by, slice_get)
 -- Where it is the first one, nothing opens the content.
 pub alone_opens : (words : List ℕ) → begins_with_one_word words ≡ true
     → (let o : Opened = record { opening = Plain; count = 0 } in Some o) ≡ opened Wide words
-alone_opens [] e = absurd cc
-alone_opens (w ∷ more) e =
-    let a = alone_is (codeword_of w) e in
-    let not_append : w ≡ 233 → ⊥ = alone_other w 233 e refl in
-    let not_programming : w ≡ 234 → ⊥ = alone_other w 234 e refl in
-    sym (ap (λ (h : Option Head). opened_by h (w == 233) (first_frame (w ∷ more)))
-    (no_head_alone w more not_append not_programming)
-    ∙ ap (λ (b : Bool). opened_by None b (first_frame (w ∷ more))) (no_append_alone w not_append)
-    ∙ ap (λ (f : Option Frame). opened_by None false f) (no_frame_alone w more a.0 a.1))
+alone_opens words h1 =
+    grind (arith, nat_tests, alone_is, codeword_of, alone_other, opened_by, first_frame, no_head_alone, no_frame_alone)

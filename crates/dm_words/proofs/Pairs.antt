@@ -121,14 +121,7 @@ not_unlatch v w n e le = let ne : v ≢ 254 = omega arith in grind (arith, nat_t
 
 -- A pair that is a prefix is found.
 pub pair_complete : IsComplete first_pair PairRight
-pair_complete place words after values p =
-    let n = 256 * p.high + p.low in
-    let le : n ≤ 64000 = omega (arith, p.number, p.first_small, p.second_small, p.third_small) in
-    let x : eqb p.high 254 ≡ false = not_unlatch p.high p.low n refl le in
-    let y : eqb (256 * p.high + p.low) 0 ≡ false = grind (arith, nat_tests) in
-    let z : ltb 64000 (256 * p.high + p.low) ≡ false = grind (arith, nat_tests) in
-    let d = values_again _ p.first p.second p.third p.first_small p.second_small p.third_small p.number in
-    rw (p.words_are, p.values_are) ((rw (x, y, z, d.0, d.1, d.2) refl), omega arith)
+pair_complete place words after values p = grind (arith, nat_tests, eqb, not_unlatch, ltb, values_again)
 
 -- Where no pair stands, none is found.
 pub stop_complete : (place : ℕ) (words : List ℕ) (kind : PairsEnd) → IsStop words kind → first_pair place words

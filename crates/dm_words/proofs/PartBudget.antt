@@ -1,9 +1,9 @@
 -- What the plan begins at an item is paid.
-use Rattle.dm_words.proofs.Names.{◌≡◌, ℕ, ◌+◌, ◌-◌, ◌<◌, ◌≤◌, List, [], ◌∷◌, length, drop, get_or, refl, ap, subst, ◌∙◌}
+use Rattle.dm_words.proofs.Names.{◌≡◌, ℕ, ◌+◌, ◌-◌, ◌<◌, ◌≤◌, List, [], ◌∷◌, length, drop, get_or, refl, ap, ◌∙◌}
 use Rattle.dm_words.proofs.Names.{arith, Bool, true, false, cond, ◌&&◌, nat_le, length-drop, at_drop_more, Setting}
-use Rattle.dm_words.proofs.Names.{Item, CodeSet, C40, Text, X12, Begin, One, Two, Run, Edifact, Segment, Rest, never}
-use Rattle.dm_words.proofs.Names.{unit_cost, cost_of, segment_cost, is_digit_item, digit_first, pair_first, row}
-use Rattle.dm_words.proofs.Names.{parts_cost, going_from, going_pairs, IsRightStep}
+use Rattle.dm_words.proofs.Names.{Item, CodeSet, Begin, One, Two, Run, Edifact, Segment, Rest, never, unit_cost}
+use Rattle.dm_words.proofs.Names.{cost_of, segment_cost, is_digit_item, digit_first, pair_first, row, parts_cost}
+use Rattle.dm_words.proofs.Names.{going_from, going_pairs, IsRightStep, nat_tests}
 use Rattle.dm_words.specs.inner.Costs.{Step, owed}
 use Rattle.dm_words.proofs.CostsMet.{second_is}
 
@@ -23,14 +23,7 @@ module _ (setting : Setting) (m : List Item) (i : ℕ) (d : Item) (s : Step) (th
   -- The cost is that of what begins.
   begin_cost : (b : Begin) → s.begins ≡ b → parts_cost setting (drop i m)
       ≡ cost_of (get_or m i d) (pair_first (drop i m)) (row setting (drop (i + 1) m)) (going_from setting (drop i m)) b
-  begin_cost b is =
-      let x = get_or m i d in
-      let rest = drop (i + 1) m in
-      let here : IsRightStep setting (x ∷ rest) s = subst (λ (l : List Item). IsRightStep setting l s) cons right in
-      let e : parts_cost setting (x ∷ rest)
-      ≡ cost_of x (pair_first (x ∷ rest)) (row setting rest) (going_from setting (x ∷ rest)) s.begins = here.begins in
-      rw cons (e ∙ ap
-      (λ (c : Begin). cost_of x (pair_first (x ∷ rest)) (row setting rest) (going_from setting (x ∷ rest)) c) is)
+  begin_cost b is = grind (arith, nat_tests, cons, parts_cost, cost_of, pair_first, row, going_from)
 
   pub one_paid : s.begins ≡ One → words + unit_cost (get_or m i d) + parts_cost setting (drop (i + 1) m) ≤ total
   one_paid is = omega (arith, begin_cost One is, budget)
@@ -67,9 +60,7 @@ module _ (setting : Setting) (m : List Item) (i : ℕ) (d : Item) (s : Step) (th
   pub run_paid : (set : CodeSet) → s.begins ≡ Run set
       → words + 1 + owed 0 (going_pairs set (going_from setting (drop i m))) ≤ total
   unfolding owed
-  run_paid C40 is = omega (arith, begin_cost (Run C40) is, budget)
-  run_paid Text is = omega (arith, begin_cost (Run Text) is, budget)
-  run_paid X12 is = omega (arith, begin_cost (Run X12) is, budget)
+  run_paid set h1 = grind (arith, nat_tests, begin_cost)
 
   pub edifact_paid : s.begins ≡ Edifact → words + 1 + (going_from setting (drop i m)).edifact.none ≤ total
   edifact_paid is = omega (arith, begin_cost Edifact is, budget)
@@ -77,16 +68,7 @@ module _ (setting : Setting) (m : List Item) (i : ℕ) (d : Item) (s : Step) (th
   pub segment_paid : s.begins ≡ Segment
       → (words + segment_cost (going_from setting (drop i m)).segment.bytes (going_from setting (drop i m)).segment.near
       ≤ total) × (words + 2 + (going_from setting (drop i m)).segment.bytes ≤ total)
-  segment_paid is =
-      let paid : words + segment_cost (going_from setting (drop i m)).segment.bytes
-      (going_from setting (drop i m)).segment.near ≤ total = omega (arith, begin_cost Segment is, budget) in
-      (paid, by_test (nat_le (going_from setting (drop i m)).segment.near 249) paid) where
-        by_test : (t : Bool)
-            → words + cond t (2 + (going_from setting (drop i m)).segment.bytes)
-            (3 + (going_from setting (drop i m)).segment.bytes) ≤ total
-            → words + 2 + (going_from setting (drop i m)).segment.bytes ≤ total
-        by_test true b = omega (arith, b)
-        by_test false b = omega (arith, b)
+  segment_paid is = grind (arith, nat_tests, segment_cost, going_from, begin_cost, nat_le, cond)
 
   pub rest_paid : s.begins ≡ Rest → words + 2 + (going_from setting (drop i m)).segment.rest ≤ total
   rest_paid is = omega (arith, begin_cost Rest is, budget)

@@ -1,9 +1,9 @@
 -- The part that the scan finds first is the part of the definition that begins there.
 use Rattle.dm_words.proofs.Names.{◌≡◌, ◌≢◌, ℕ, suc, ◌+◌, ◌*◌, ◌<◌, ◌≤◌, List, [], ◌∷◌, ◌++◌, length, take, drop, refl}
-use Rattle.dm_words.proofs.Names.{subst, arith, Option, Some, None, length-take, Codeword, CodeSet, Extent, Usual, Wide}
+use Rattle.dm_words.proofs.Names.{arith, Option, Some, None, length-take, Codeword, CodeSet, Extent, Usual, Wide}
 use Rattle.dm_words.proofs.Names.{Item, WordFault, codeword_of, IsAsciiUnit, character, digits, fnc1, raised, IsPart}
-use Rattle.dm_words.proofs.Names.{run, segment, edifact, IsEnd, pad, always, macro_behind, left_out, Step, Takes, Stops}
-use Rattle.dm_words.proofs.Names.{part_by, first_part}
+use Rattle.dm_words.proofs.Names.{run, segment, edifact, IsEnd, pad, always, macro_behind, left_out, Step, Takes}
+use Rattle.dm_words.proofs.Names.{Stops, part_by, first_part, nat_tests}
 use Rattle.dm_words.specs.declared.codeword.Codeword.TheVariants as codeword
 use Rattle.dm_words.specs.declared.fault.WordFault.TheVariants as fault
 use Rattle.dm_words.specs.Parts.{ascii, nothing}
@@ -46,9 +46,7 @@ from_run extent set place words (Stops (Some f)) j = faulty_run set j
 -- A segment is a part, and a faulty segment is a fault.
 from_segment : (extent : Extent) (place : ℕ) (words : List ℕ) (found : Found) → SegmentJudged place words found
     → Judged extent place words found
-from_segment extent place words (Takes n items) j = (segment j.right, j.some, j.within)
-from_segment extent place words (Stops None) j = absurd j
-from_segment extent place words (Stops (Some f)) j = faulty_segment j.0 j.1
+from_segment extent place words found h1 = grind (arith, nat_tests, segment, faulty_segment)
 
 -- What is found by the meaning of the first word is right.
 judged_by : (extent : Extent) (place w : ℕ) (more : List ℕ) (k : Option Codeword) → codeword_of w ≡ k → IsBytes more
@@ -83,8 +81,7 @@ judged extent place (w ∷ more) fit = judged_by extent place w more (codeword_o
 -- Whatever the scan finds is right.
 judged_as : (extent : Extent) (place : ℕ) (words : List ℕ) (found : Found) → IsBytes words
     → first_part extent place words ≡ found → Judged extent place words found
-judged_as extent place words found fit e = let P : Found
-    → Type 0 = λ s. Judged extent place words s in subst P e (judged extent place words fit)
+judged_as extent place words found fit e = grind (arith, nat_tests, judged)
 
 -- A part that is found is a part.
 pub part_sound : (extent : Extent) → IsSound (first_part extent) (IsPart extent) IsBytes
@@ -110,10 +107,7 @@ end_sound extent place words fit e = judged_as extent place words (Stops None) f
 -- A unit that is a prefix is found.
 unit_again : (extent : Extent) (place : ℕ) (words after : List ℕ) (items : List Item) → IsAsciiUnit words items
     → (first_part extent place (words ++ after) ≡ Takes (length words) items) × (0 < length words)
-unit_again extent place words after items (character w b k e i) = rw (e, i) ((rw k refl), omega arith)
-unit_again extent place words after items (digits w n k e i) = rw (e, i) ((rw k refl), omega arith)
-unit_again extent place words after items (fnc1 w k e i) = rw (e, i) ((rw k refl), omega arith)
-unit_again extent place words after items (raised s w b k l e i) = rw (e, i) ((rw (k, l) refl), omega arith)
+unit_again extent place words after items h1 = grind (arith, nat_tests)
 
 -- What stands behind a latch to a run is found at the latch.
 run_found : (extent : Extent) (set : CodeSet) (place : ℕ) (words : List ℕ) (step : Found)
@@ -145,14 +139,12 @@ part_complete extent place words after items (edifact is r) = let c =
 -- An end that is a prefix is found.
 pub end_complete : (extent : Extent) (place : ℕ) (words : List ℕ) → IsEnd words → first_part extent place words
     ≡ Stops None
-end_complete extent place words (nothing e) = rw e refl
-end_complete extent place words (pad w more k e) = rw (e, k) refl
+end_complete extent place words h1 = grind (arith, nat_tests)
 
 -- An Upper Shift before something that is not a character is found to be faulty.
 no_character : (place : ℕ) (k : Option Codeword) → ((b : ℕ) → k ≢ Some (codeword.Character b))
     → raised_unit_by place k ≡ Stops (Some (fault.UpperShift place))
-no_character place (Some (codeword.Character b)) none_such = absurd (none_such b refl)
-no_character place _ none_such = refl
+no_character place k h1 = grind (arith, nat_tests)
 
 -- A fault that is there is found.
 pub fault_complete : (extent : Extent) (place : ℕ) (words : List ℕ) (f : WordFault) → IsFault extent place words f

@@ -1,25 +1,12 @@
 -- Parts that are written one behind the other are parts.
 use Rattle.dm_words.proofs.Names.{◌≡◌, ℕ, ◌+◌, ◌<◌, List, [], ◌∷◌, ◌++◌, length, append_assoc, refl, sym, ap, subst}
-use Rattle.dm_words.proofs.Names.{◌∙◌, arith, add-zero, append-nil, length-append, Extent, Item, Piece, spelled}
-use Rattle.dm_words.proofs.Names.{AreJoined, IsPlainPart, IsPart, IsEnd, AreParts, NoUnlatchFirst, IsPartWritten}
-use Rattle.dm_words.proofs.Names.{ArePartsWritten}
-use Rattle.dm_words.proofs.Pieces.{spelled-last, gathered-last}
-
-module _ {B : Type 0} where
-  -- One more piece is joined at the end.
-  joined-last : (R : ℕ → List ℕ → List ℕ → List B
-      → Type 0) (place : ℕ) (ps : List (Piece (List B))) (q : Piece (List B)) (after : List ℕ)
-      → AreJoined R place ps (q.words ++ after)
-      → R (place + length (spelled ps)) q.words after q.what → AreJoined R place (ps ++ q ∷ []) after
-  joined-last R place [] q after h one = ((rw add-zero at one), tt)
-  joined-last R place (p ∷ ps) q after h one =
-      let all : spelled ps ++ (q.words ++ after) ≡ spelled (ps ++ q ∷ []) ++ after =
-      cc (append_assoc (spelled ps) q.words after, spelled-last ps q) in
-      let place_is : place + length (p.words ++ spelled ps) ≡ (place + length p.words) + length (spelled ps) =
-      omega (arith, length-append p.words (spelled ps)) in (
-        subst (λ (l : List ℕ). R place p.words l p.what) all h.0,
-        joined-last R (place + length p.words) ps q after h.1 (rw place_is at one),
-      )
+use Rattle.dm_words.proofs.Names.{◌∙◌, arith, append-nil, length-append, Extent, Item, Piece, spelled, ◌-◌, ◌≤◌}
+use Rattle.dm_words.proofs.Names.{as_content, pads, padded, SaysThenPads, IsPlainPart, IsPart, NoUnlatchFirst}
+use Rattle.dm_words.proofs.Names.{IsPartWritten, ArePartsWritten, nat_tests}
+use Rattle.dm_words.proofs.AsciiWords.{pads_end}
+use Rattle.dm_words.proofs.PadWords.{filled, pads_are, pads_begin}
+use Rattle.dm_words.proofs.Pieces.{spelled-last, gathered-last, joined-last}
+use Rattle.dm_words.proofs.SpelledContents.{parts_say}
 
 -- Nothing is written yet.
 pub no_parts : (extent : Extent) (total : ℕ) (base : List ℕ) → ArePartsWritten extent total base base []
@@ -35,8 +22,7 @@ no_parts extent total base =
 
 -- No unlatch comes first where it doesn't in a part.
 no_unlatch : (part after : List ℕ) → 0 < length part → NoUnlatchFirst part → NoUnlatchFirst (part ++ after)
-no_unlatch [] after some begins = absurd (omega (arith, some))
-no_unlatch (w ∷ part) after some begins = begins
+no_unlatch part after h1 h2 = grind (arith, nat_tests)
 
 -- One more part is written.
 pub parts_more : (extent : Extent) (total : ℕ) (base old new : List ℕ) (items more : List Item)
@@ -66,23 +52,19 @@ parts_more extent total base old new items more w p =
           (rw place at (p.plain after fills first));
     }
 
--- Parts with an end behind them are parts.
-pub parts_whole : (extent : Extent) (total : ℕ) (base new after : List ℕ) (items : List Item)
-    → ArePartsWritten extent total base new items → length new + length after ≡ total → NoUnlatchFirst after
-    → IsEnd after
-    → (words : List ℕ) × (new ++ after ≡ base ++ words) × (parts : AreParts extent (length base + 1) words items) ×
-    (parts.after ≡ after)
-parts_whole extent total base new after items w fills first ended = (
-  spelled w.parts ++ after,
-  ap (λ (l : List ℕ). l ++ after) w.whole ∙ append_assoc base (spelled w.parts) after,
-  record {
-    parts = w.parts;
-    after = after;
-    joined = w.right after fills first;
-    ended = ended;
-    whole =
-        refl;
-    items_are = w.items_are;
-  },
-  refl,
-)
+-- Parts with pads behind them say a message.
+pub written_say : (extent : Extent) (count : ℕ) (base new : List ℕ) (m : List Item) → base ≡ []
+    → ArePartsWritten extent count base new m → length new ≤ count
+    → SaysThenPads extent (padded new count) (as_content m)
+written_say extent count base new m none written fits =
+    let w : ArePartsWritten extent count [] new m = rw none at written in
+    let after = pads (length new + 1) (count - length new) in
+    let first = pads_begin (length new + 1) (count - length new) in
+    parts_say extent (padded new count) m (record {
+      parts = w.parts;
+      after = after;
+      joined = w.right after (filled new count fits) first;
+      ended = pads_end (length new + 1) (count - length new);
+      whole = ap (λ (l : List ℕ). l ++ after) w.whole;
+      items_are = w.items_are;
+    }) (pads_are new count)

@@ -1,23 +1,25 @@
 -- What is written is plain, and has the identifier of the ASCII form.
 use Rattle.dm_words.proofs.Names.{◌≡◌, ℕ, zero, suc, ◌+◌, ◌-◌, ◌<◌, ◌≤◌, List, [], ◌∷◌, ◌++◌, length, refl, sym, ap}
 use Rattle.dm_words.proofs.Names.{subst, ◌∙◌, arith, Bool, true, false, cond, ltb, Option, Some, None, length-append}
-use Rattle.dm_words.proofs.Names.{append_assoc, take, drop, get_or, ◌&&◌, drop-append_seam, take-append-add, append-nil}
-use Rattle.dm_words.proofs.Names.{nil_from_length, take_rest, Extent, Wide, Item, Byte, Fnc1, Head, Mark, Opened}
-use Rattle.dm_words.proofs.Names.{Opening, Framed, Ascii, ascii, single, is_digit, digit_pair, codeword_of, IsHead}
+use Rattle.dm_words.proofs.Names.{append_assoc, take, drop, get_or, ◌&&◌, drop-append_seam, take-append-add}
+use Rattle.dm_words.proofs.Names.{append-nil, nil_from_length, take_rest, Extent, Wide, Item, Byte, Fnc1, Head, Mark}
+use Rattle.dm_words.proofs.Names.{Opened, Opening, Framed, Ascii, ascii, single, is_digit, digit_pair, codeword_of}
 use Rattle.dm_words.proofs.Names.{head_words, Piece, spelled, whats, AreJoined, as_content, ascii_with_marks, form_by}
-use Rattle.dm_words.proofs.Names.{content_form, ContentView, AreMarks, Said, Items, Number, said_items, said_marks}
+use Rattle.dm_words.proofs.Names.{content_form, ContentView, Said, Items, Number, said_items, said_marks}
 use Rattle.dm_words.proofs.Names.{said_content, IsOpening, headed, framed, plain, AreOpened, BeginsFrame, Says}
-use Rattle.dm_words.proofs.Names.{macro_text, BeginsFnc1, padded, FramesNoFnc1, IsPlainForm, IsPlainPart, IsPart}
-use Rattle.dm_words.proofs.Names.{IsFnc1Number, IsIdentifier, marks_number, fnc1_number, AreSaid, first_text, view_of}
-use Rattle.dm_words.proofs.Names.{sign_words, KeepsSign, IsMacroOf, inner_text, ArePartsWritten}
+use Rattle.dm_words.proofs.Names.{macro_text, BeginsFnc1, padded, FramesNoFnc1, IsPlainPart, IsPart, IsFnc1Number}
+use Rattle.dm_words.proofs.Names.{IsIdentifier, marks_number, fnc1_number, AreSaid, first_text, view_of, sign_words}
+use Rattle.dm_words.proofs.Names.{KeepsSign, IsMacroOf, inner_text, ArePartsWritten, IsContent, IsItem, IsMessage}
+use Rattle.dm_words.proofs.Names.{recursion_from_All, nat_tests}
 use Rattle.dm_words.specs.declared.codeword.Codeword.TheVariants as codeword
-use Rattle.dm_words.proofs.AsciiWords.{AreItems}
+use Rattle.dm_words.specs.inner.Ways.{AreWritten}
 use Rattle.dm_words.proofs.Fnc1Places.{identified, one_number}
 use Rattle.dm_words.proofs.Heads as heads
 use Rattle.dm_words.proofs.ContentBounds.{starts}
 use Rattle.dm_words.proofs.ContentWritten.{SaysPlainly, nothing_said, text_said, form_said, says_plain, says_by_head}
-use Rattle.dm_words.proofs.ContentWritten.{says_framed}
+use Rattle.dm_words.proofs.ContentWritten.{says_framed, says_so}
 use Rattle.dm_words.proofs.MarkedCosts.{StartAt}
+use Rattle.dm_words.proofs.PartsWritten.{written_say}
 use Rattle.dm_words.proofs.PlainParts.{plain_part}
 use Rattle.dm_words.proofs.Signs.{first_said, number_of_sign, number_of_macro}
 use Rattle.dm_words.proofs.WholeContents.{opens_so}
@@ -38,8 +40,7 @@ first_is seen (Items items ∷ said) =
       by_marks (m ∷ ms) le e =
           let n : m.place - seen ≡ length items + (m.place - (seen + length items)) = omega (arith, le) in
           cc (take-append-add items (said_items said) (m.place - (seen + length items)))
-first_is seen (Number number ∷ said) =
-    let none : seen - seen ≡ 0 = omega arith in ap (λ (k : ℕ). take k (said_items said)) none
+first_is seen (Number number ∷ said) = grind (arith, nat_tests, said_items)
 
 -- Where FNC1 comes first among them, it comes first among all.
 first_fnc1 : (said : List Said) → BeginsFnc1 (first_said said) → BeginsFnc1 (said_items said)
@@ -200,21 +201,16 @@ pub form_is : (head : Option Head) (items : List Item) (marks : List Mark) → f
     ≡ head_words head ++ ascii_with_marks 0 items marks
 form_is head items marks = grind arith
 
--- A content that can be written.
-pub record IsWritable (l : ContentView) : Type 0 where
-  pub head : IsHead l.head
-  pub items : AreItems l.items
-  pub marks : AreMarks 0 (length l.items) l.marks
-
 -- It says the content plainly, with pads.
-pub form_plainly : (l : ContentView) (count : ℕ) → IsWritable l → length (content_form Ascii l) ≤ count
+pub form_plainly : (l : ContentView) (count : ℕ) → IsContent l → length (content_form Ascii l) ≤ count
     → SaysPlainly (padded (content_form Ascii l) count) l
 form_plainly l count w fits =
     let base = head_words l.head in
     let new = base ++ ascii_with_marks 0 l.items l.marks in
     let is : content_form Ascii l ≡ new = form_is l.head l.items l.marks in
     rw (sym is) at (says_by_head count base new l.head l.items l.marks w.head refl
-    (form_said count base new l.items l.marks w.items w.marks refl) (omega (arith, fits, ap length is)))
+    (form_said count base new l.items l.marks
+    (recursion_from_All IsItem l.items w.items) w.marks refl) (omega (arith, fits, ap length is)))
 
 -- And it keeps the sign.
 pub form_sign : (l : ContentView) → KeepsSign (head_words l.head) (content_form Ascii l) (first_text 0 l.items l.marks)
@@ -228,36 +224,41 @@ no_pads words = grind (arith, append-nil)
 
 -- ---- the whole
 
--- What says a content plainly and keeps the sign is a plain form.
-pub plain_form : (words : List ℕ) (l : ContentView) → IsWritable l → SaysPlainly words l
-    → KeepsSign (head_words l.head) words (first_text 0 l.items l.marks) → IsPlainForm words l
+-- What says a content plainly and keeps the sign says it as words that are written do.
+pub plain_form : (words : List ℕ) (l : ContentView) → IsContent l → SaysPlainly words l
+    → KeepsSign (head_words l.head) words (first_text 0 l.items l.marks) → AreWritten Wide words l
 plain_form words l w p sign =
     let form = content_form Ascii l in
     let fp : SaysPlainly form l = rw (no_pads form) at (form_plainly l (length form) w (omega arith)) in
     let same = number words l p sign ∙ sym (number form l fp (form_sign l)) in
+    let says = says_so words l p in
     record {
-      plain = record {
-        opening = p.spells.opening;
-        place = p.spells.place;
-        more = p.spells.more;
-        opened = p.spells.opened;
-        macro_first = p.macro_first;
-        parts = p.spells.parts.parts;
-        after = p.spells.parts.after;
-        joined = p.plain;
-        ended = p.spells.parts.ended;
-        whole = p.spells.parts.whole;
+      says = says;
+      wide = says;
+      form = record {
+        plain = record {
+          opening = p.spells.opening;
+          place = p.spells.place;
+          more = p.spells.more;
+          opened = p.spells.opened;
+          macro_first = p.macro_first;
+          parts = p.spells.parts.parts;
+          after = p.spells.parts.after;
+          joined = p.plain;
+          ended = p.spells.parts.ended;
+          whole = p.spells.parts.whole;
+        };
+        identifier = λ n. (
+          same_identifier words form l p.spells fp.spells same n,
+          same_identifier form words l fp.spells p.spells (sym same) n,
+        );
+        framed = no_frame words l p;
       };
-      identifier = λ n. (
-        same_identifier words form l p.spells fp.spells same n,
-        same_identifier form words l fp.spells p.spells (sym same) n,
-      );
-      framed = no_frame words l p;
     }
 
 -- The ASCII form, with pads, is one.
-pub ascii_plain : (l : ContentView) (count : ℕ) → IsWritable l → length (content_form Ascii l) ≤ count
-    → IsPlainForm (padded (content_form Ascii l) count) l
+pub ascii_plain : (l : ContentView) (count : ℕ) → IsContent l → length (content_form Ascii l) ≤ count
+    → AreWritten Wide (padded (content_form Ascii l) count) l
 ascii_plain l count w fits =
     plain_form (padded (content_form Ascii l) count) l w (form_plainly l count w fits)
     (keeps_more (head_words l.head) (content_form Ascii l) _ (first_text 0 l.items l.marks) (form_sign l))
@@ -283,19 +284,20 @@ parts_wide extent total base new m w = record {
     joined (place + length p.words) ps after h.1,
   )
 
--- A message is a content that can be written.
-pub message_writable : (m : List Item) → AreItems m → IsWritable (as_content m)
-message_writable m fit = record { head = tt; items = fit; marks = omega arith }
+-- A message is a content.
+pub message_is_content : (m : List Item) → IsMessage m → IsContent (as_content m)
+message_is_content m fit = record { head = tt; items = fit; marks = omega arith }
 
--- Parts of a message that were written, with pads, are a plain form.
-pub message_form : (extent : Extent) (count : ℕ) (base new : List ℕ) (m : List Item) → AreItems m → base ≡ []
+-- Parts of a message that were written, with pads, say it so.
+pub message_form : (extent : Extent) (count : ℕ) (base new : List ℕ) (m : List Item) → IsMessage m → base ≡ []
     → ArePartsWritten extent count base new m → KeepsSign base new m → length new ≤ count
-    → IsPlainForm (padded new count) (as_content m)
+    → AreWritten extent (padded new count) (as_content m)
 message_form extent count base new m fit none w sign fits =
     let here : ArePartsWritten Wide count [] new m = rw none at (parts_wide extent count base new m w) in
-    plain_form (padded new count) (as_content m) (message_writable m fit)
+    let written = plain_form (padded new count) (as_content m) (message_is_content m fit)
     (says_plain count new m [] (text_said count [] [] new 0 [] m [] (nothing_said count [] 0) here) fits)
-    (keeps_more [] new _ m (subst (λ (b : List ℕ). KeepsSign b new m) none sign))
+    (keeps_more [] new _ m (subst (λ (b : List ℕ). KeepsSign b new m) none sign)) in
+    record { says = written_say extent count base new m none w fits; wide = written.wide; form = written.form }
 
 -- What a macro frames begins with no sign.
 framed_sign : (words : List ℕ) (m : List Item) (marks : List Mark) (digit : ℕ) (text : List Item)
@@ -306,16 +308,17 @@ framed_sign words m marks digit text is le = (
       ∙ frame_sign digit text marks le)),
 )
 
--- A macro and parts of its text that were written, with pads, are a plain form.
-pub macro_form : (extent : Extent) (count word : ℕ) (base new : List ℕ) (m text : List Item) → AreItems m
+-- So do a macro and parts of its text that were written, with pads.
+pub macro_form : (extent : Extent) (count word : ℕ) (base new : List ℕ) (m text : List Item) → IsMessage m
     → base ≡ word ∷ [] → text ≡ inner_text m → IsMacroOf extent m word → ArePartsWritten extent count base new text
-    → length new ≤ count → IsPlainForm (padded new count) (as_content m)
+    → length new ≤ count → AreWritten extent (padded new count) (as_content m)
 macro_form extent count word base new m text fit one is_text is w fits =
     let framed : m ≡ macro_text is.digit text = is.framed ∙ ap (macro_text is.digit) (sym is_text) in
     let none : BeginsFnc1 text → ⊥ = λ b. is.no_fnc1 (subst BeginsFnc1 is_text b) in
-    plain_form _ _ (message_writable m fit) (says_framed _ word is.digit _ _ m _ _ is.is_macro framed one
+    subst (λ (e : Extent). AreWritten e (padded new count) (as_content m)) (sym is.wide)
+    (plain_form _ _ (message_is_content m fit) (says_framed _ word is.digit _ _ m _ _ is.is_macro framed one
     (text_said _ _ _ _ 7 _ _ _ (nothing_said count base 7) (parts_wide _ _ _ _ _ w)) none fits)
-    (framed_sign (padded new count) m [] is.digit text framed tt)
+    (framed_sign (padded new count) m [] is.digit text framed tt))
 
 -- ---- contents
 
@@ -353,11 +356,11 @@ sign_end base words new part seen items (m ∷ marks) zero from le first later t
 sign_end base words new part seen items marks (suc k) from le first later text is =
     rw (sym is) at (keeps_more base words part (first_text seen items marks) (later (omega arith)))
 
--- Behind a head, or none, what is said with marks is a plain form.
+-- Behind a head, or none, what is said with marks is written so.
 pub headed_form : (count : ℕ) (base new : List ℕ) (head : Option Head) (items : List Item) (marks : List Mark)
-    → IsWritable (view_of head items marks) → base ≡ head_words head → AreSaid count base new 0 items marks
+    → IsContent (view_of head items marks) → base ≡ head_words head → AreSaid count base new 0 items marks
     → KeepsSign base new (first_text 0 items marks) → length new ≤ count
-    → IsPlainForm (padded new count) (view_of head items marks)
+    → AreWritten Wide (padded new count) (view_of head items marks)
 headed_form count base new head items marks w is said sign fits =
     plain_form (padded new count) (view_of head items marks) w
     (says_by_head count base new head items marks w.head is said fits)
@@ -365,9 +368,9 @@ headed_form count base new head items marks w is said sign fits =
 
 -- Behind a macro too.
 pub framed_form : (count word digit : ℕ) (base new : List ℕ) (items text : List Item) (marks : List Mark)
-    → IsWritable (view_of None items marks) → codeword_of word ≡ Some (codeword.Macro digit)
+    → IsContent (view_of None items marks) → codeword_of word ≡ Some (codeword.Macro digit)
     → items ≡ macro_text digit text → base ≡ word ∷ [] → AreSaid count base new 7 text marks → StartAt 7 marks
-    → (BeginsFnc1 text → ⊥) → length new ≤ count → IsPlainForm (padded new count) (view_of None items marks)
+    → (BeginsFnc1 text → ⊥) → length new ≤ count → AreWritten Wide (padded new count) (view_of None items marks)
 framed_form count word digit base new items text marks w k is one said from none fits =
     plain_form _ _ w (says_framed _ word digit _ _ _ _ _ k is one said none fits)
     (framed_sign (padded new count) _ marks digit text is from)

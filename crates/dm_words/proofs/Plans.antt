@@ -1,25 +1,22 @@
 -- The plan and the cost that the loop finds are those of the definition.
-use Rattle.dm_words.proofs.Names.{◌≡◌, ℕ, zero, suc, ◌+◌, ◌-◌, ◌*◌, ◌<◌, ◌≤◌, List, [], ◌∷◌, length, drop, get_or, refl}
-use Rattle.dm_words.proofs.Names.{◌⊎◌, sym, ap, subst, ◌++◌, ◌&&◌, arith, Bool, true, false, cond, inl, inr, nat_le}
-use Rattle.dm_words.proofs.Names.{cases_lt, append-nil, at_drop_all, drop-drop, get_or-set_same, get_or-set_other}
-use Rattle.dm_words.proofs.Names.{length-append, set, drop-cons, Extent, Setting, Item, Byte, Fnc1, CodeSet, C40, Text}
-use Rattle.dm_words.proofs.Names.{X12, Pairs, Groups, Going, Row, Begin, One, Two, never, is_basic, low_values}
-use Rattle.dm_words.proofs.Names.{shift_values, set_values, has_edifact, stay, stay_edifact, least, cost_of, going_over}
-use Rattle.dm_words.proofs.Names.{with_ascii, StepBits, Costs, HasRow, step_in, none_going, rest_behind, most_behind}
-use Rattle.dm_words.proofs.Names.{parts_cost, pair_first, IsWithin, IsRightStep, unit_cost, ascii, digit_pair, is_digit}
-use Rattle.dm_words.proofs.Names.{single, digit_first, is_digit_item, step_of}
+use Rattle.dm_words.proofs.Names.{◌≡◌, ℕ, zero, suc, ◌+◌, ◌-◌, ◌*◌, ◌<◌, ◌≤◌, List, [], ◌∷◌, length, drop, get_or}
+use Rattle.dm_words.proofs.Names.{refl, ◌⊎◌, sym, ap, subst, ◌++◌, ◌&&◌, arith, Bool, true, false, cond, inl, inr}
+use Rattle.dm_words.proofs.Names.{nat_le, cases_lt, append-nil, at_drop_all, drop-drop, get_or-set_same}
+use Rattle.dm_words.proofs.Names.{get_or-set_other, length-append, set, drop-cons, Extent, Setting, Item, Byte, Fnc1}
+use Rattle.dm_words.proofs.Names.{CodeSet, C40, Text, X12, Pairs, Groups, Going, Row, Begin, One, Two, never}
+use Rattle.dm_words.proofs.Names.{is_basic, low_values, shift_values, set_values, has_edifact, stay, stay_edifact}
+use Rattle.dm_words.proofs.Names.{least, cost_of, going_over, with_ascii, StepBits, Costs, HasRow, step_in}
+use Rattle.dm_words.proofs.Names.{none_going, rest_behind, most_behind, parts_cost, pair_first, IsWithin, IsRightStep}
+use Rattle.dm_words.proofs.Names.{unit_cost, ascii, digit_pair, is_digit, single, digit_first, is_digit_item, step_of}
+use Rattle.dm_words.proofs.Names.{length-drop, nat_tests}
 use Rattle.std.proofs.Math.Seq.{drop-length}
 use Rattle.dm_words.specs.inner.Costs.{Step, ArePaid, ArePaidGroups, AreSmall, row}
 use Rattle.dm_words.proofs.CostsMet.{least_is, is_least}
 use Rattle.dm_words.proofs.SpellingCounts.{unit_few}
 
--- A byte below 128 has at most two values in a set that has shifts.
-low_few : (set : CodeSet) (b : ℕ) → low_values set b ≤ 2
-low_few set b = grind (arith, is_basic)
-
 -- An item has at most four there.
 shifts_few : (set : CodeSet) (x : Item) → shift_values set x ≤ 4
-shifts_few set x = grind (arith, low_values, low_few)
+shifts_few set x = grind (arith, low_values, is_basic)
 
 -- An item has at most four values.
 values_few : (set : CodeSet) (x : Item) → set_values set x ≤ 4
@@ -38,10 +35,7 @@ stay_paid (suc (suc (suc (suc (suc n))))) most next few h big = absurd (omega (a
 
 stay_edifact_paid : (has : Bool) (most : ℕ) (next : Groups) → ArePaidGroups most next → never ≤ most
     → ArePaidGroups (most + 4) (stay_edifact has next)
-stay_edifact_paid true most next h big =
-    (omega (arith, h.1), omega (arith, h.2), omega (arith, h.3), omega (arith, h.0))
-stay_edifact_paid false most next h big =
-    (omega (arith, big), omega (arith, big), omega (arith, big), omega (arith, big))
+stay_edifact_paid has most next h1 h2 = grind (arith, nat_tests)
 
 -- Up to the end of the symbol it costs nothing, or more than any cost.
 rest_few : (behind : ℕ) → rest_behind behind ≤ never
@@ -57,17 +51,7 @@ cost_most setting (x ∷ m) = omega (arith, least_is setting x m One, unit_few x
 pub row_within : (setting : Setting) (m : List Item) → length m ≤ 3200 → setting.behind ≤ most_behind
     → IsWithin (length m) (row setting m)
 unfolding row
-row_within setting [] few small = record {
-  ascii = omega (arith, small);
-  second = omega arith;
-  c40 = (omega arith, omega arith, omega arith);
-  text = (omega arith, omega arith, omega arith);
-  x12 = (omega arith, omega arith, omega arith);
-  edifact = (omega arith, omega arith, omega arith, omega arith);
-  bytes = omega arith;
-  near = omega arith;
-  rest = omega (arith, rest_few setting.behind);
-}
+row_within setting [] few small = grind (arith, nat_tests, ascii, rest_few)
 row_within setting (x ∷ m) few small =
     let h = row_within setting m (omega (arith, few)) small in
     let a : parts_cost setting (x ∷ m) ≤ most_behind + 2 * length (x ∷ m) =
@@ -111,28 +95,9 @@ row_within setting (x ∷ m) few small =
         by_test false = omega (arith, h.near)
 
 -- Nor is one of a row that the loop has.
-pub within : (setting : Setting) (m : List Item) (at : ℕ) (r : Row) → length m ≤ 3123 → setting.behind ≤ most_behind → r
-    ≡ row setting (drop at m) → length (drop at m) ≤ length m → IsWithin 3200 r
-within setting m at r few small is shorter =
-    let h = row_within setting (drop at m) (omega (arith, few, shorter)) small in
-    let n : length (drop at m) ≤ 3200 = omega (arith, few, shorter) in
-    let w : IsWithin 3200 (row setting (drop at m)) = record {
-      ascii = omega (arith, h.ascii, n);
-      second = h.second;
-      c40 = (omega (arith, h.c40.0, n), omega (arith, h.c40.1, n), omega (arith, h.c40.2, n));
-      text = (omega (arith, h.text.0, n), omega (arith, h.text.1, n), omega (arith, h.text.2, n));
-      x12 = (omega (arith, h.x12.0, n), omega (arith, h.x12.1, n), omega (arith, h.x12.2, n));
-      edifact = (
-        omega (arith, h.edifact.0, n),
-        omega (arith, h.edifact.1, n),
-        omega (arith, h.edifact.2, n),
-        omega (arith, h.edifact.3, n),
-      );
-      bytes = h.bytes;
-      near = omega (arith, h.near, n);
-      rest = omega (arith, h.rest, n);
-    } in
-    subst (IsWithin 3200) (sym is) w
+pub within : (setting : Setting) (m : List Item) (at : ℕ) → length m ≤ 3123 → setting.behind ≤ most_behind
+    → IsWithin 3200 (row setting (drop at m))
+within setting m at few small = grind (arith, nat_tests, length-drop, row_within, ascii)
 
 -- Of equally cheap ways ASCII is taken.
 pub record TakesAscii (x : Item) (pair : Bool) (next : Row) (going : Going) (cost : ℕ) (begins : Begin) : Type 0 where
@@ -161,19 +126,7 @@ turn_here : (setting : Setting) (x : Item) (rest : List Item) (next new : Row) (
 unfolding row
 turn_here setting x rest next new pair going begins cost step is_next is_pair is_going is_cost chosen takes is_step
     is_new =
-    let right : cost_of x (pair_first (x ∷ rest)) (row setting rest)
-    (going_over setting.extent x (row setting rest)) begins
-    ≡ least x (pair_first (x ∷ rest)) (row setting rest) (going_over setting.extent x (row setting rest)) =
-    (rw (is_cost, is_going, is_next, is_pair) at chosen) in
-    let steps : step
-    ≡ step_of (least x (pair_first (x ∷ rest)) (row setting rest) (going_over setting.extent x (row setting rest)))
-    begins
-    (going_over setting.extent x (row setting rest)) =
-    (rw (is_cost, is_going, is_next, is_pair) at is_step) in
-    let ascii : TakesAscii x (pair_first (x ∷ rest)) (row setting rest) (going_over setting.extent x (row setting rest))
-    (least x (pair_first (x ∷ rest)) (row setting rest) (going_over setting.extent x (row setting rest))) begins =
-    (rw (is_cost, is_going, is_next, is_pair) at takes) in
-    (rw (is_new, is_cost, is_going, is_next, is_pair) refl, right_here setting x rest begins step right ascii steps)
+    grind (arith, nat_tests, cost_of, pair_first, row, going_over, least, step_of, ascii, right_here)
 
 -- No digit stands behind the last item.
 pub digit_last : (m : List Item) → digit_first (drop (length m) m) ≡ false
@@ -274,14 +227,7 @@ last_costs setting m costs has =
 
 -- Behind the last item no cost is too great.
 pub none_small : (behind : ℕ) → AreSmall (none_going behind)
-none_small behind = record {
-  c40 = (omega arith, omega arith, omega arith);
-  text = (omega arith, omega arith, omega arith);
-  x12 = (omega arith, omega arith, omega arith);
-  edifact = (omega arith, omega arith, omega arith, omega arith);
-  bytes = omega arith;
-  rest = omega (arith, rest_few behind);
-}
+none_small behind = grind (arith, nat_tests, rest_few)
 
 -- Over an item no cost grows too great.
 pub going_small : (extent : Extent) (x : Item) (r : Row) → IsWithin 3200 r → AreSmall (going_over extent x r)
@@ -311,11 +257,4 @@ least_small x pair r g w = omega (arith, is_least x pair r g One, unit_few x, w.
 -- The numbers of a row that are kept by themselves are small.
 pub kept_small : (r : Row) (costs : Costs) → IsWithin 3200 r → HasRow r costs
     → (costs.ascii ≤ 16384) × (costs.after ≤ 16384) × (costs.near ≤ 16384)
-kept_small r costs w h = (
-  omega (arith, h.ascii, w.ascii),
-  omega (arith, h.second, w.second),
-  omega (arith, h.near, by_test (nat_le r.ascii r.segment.bytes)),
-) where
-  by_test : (t : Bool) → cond t 0 r.segment.near ≤ 3200
-  by_test true = omega arith
-  by_test false = w.near
+kept_small r costs w h = grind (arith, nat_tests, nat_le, cond)

@@ -1,8 +1,8 @@
 -- A run that follows the plan stays within its budget.
 use Rattle.dm_words.proofs.Names.{◌≡◌, ℕ, zero, suc, ◌+◌, ◌-◌, ◌*◌, ◌/◌, ◌<◌, ◌≤◌, List, [], ◌∷◌, ◌++◌, length, take}
-use Rattle.dm_words.proofs.Names.{drop, get_or, refl, sym, ap, ◌∙◌, arith, Bool, true, false, cond, ◌⊎◌, inl, inr}
+use Rattle.dm_words.proofs.Names.{drop, get_or, refl, sym, ap, ◌∙◌, arith, Bool, true, false, cond, ◌⊎◌}
 use Rattle.dm_words.proofs.Names.{nat_le, ◌&&◌, not, length-drop, at_drop_more, get_or-drop, take-suc, nat_tests}
-use Rattle.dm_words.proofs.Names.{Setting, Item, CodeSet, C40, Text, X12, Pairs, Waiting, never, set_values, no_pairs}
+use Rattle.dm_words.proofs.Names.{Setting, Item, CodeSet, Pairs, Waiting, never, set_values, no_pairs}
 use Rattle.dm_words.proofs.Names.{stay, leave, or_leave, going_from, going_pairs, row_pairs, parts_cost, IsRightStep}
 use Rattle.dm_words.proofs.Names.{part_values, is_empty, IsItemPushed}
 use Rattle.dm_words.specs.inner.Costs.{Step, owed, row}
@@ -71,6 +71,14 @@ pub item_paid : (set : CodeSet) (p p' : Waiting) (k n words words' total : ℕ) 
     → words' + owed (length (part_values p')) next ≤ total
 item_paid set p p' k n words words' total next budget e is = grind (arith, owed, part_values, owed_more)
 
+-- Where a run goes on over an item, its costs are these; and behind the last item none goes on.
+going_is : (setting : Setting) (set : CodeSet) (x : Item) (rest : List Item)
+    → going_pairs set (going_from setting (x ∷ rest)) ≡ stay (set_values set x) (row_pairs set (row setting rest))
+going_is setting set x rest = grind (arith, nat_tests)
+
+none_goes : (setting : Setting) (set : CodeSet) → going_pairs set (going_from setting []) ≡ no_pairs
+none_goes setting set = grind (arith, nat_tests)
+
 -- Where a run goes on, the set has the item, and the run can pay for it.
 run_here : (setting : Setting) (set : CodeSet) (x : Item) (rest : List Item) (s : Step) (p : Waiting) (words total : ℕ)
     → IsRightStep setting (x ∷ rest) s
@@ -79,40 +87,21 @@ run_here : (setting : Setting) (set : CodeSet) (x : Item) (rest : List Item) (s 
     → (0 < set_values set x) ×
     (words + owed (length (part_values p) + set_values set x) (row_pairs set (row setting rest)) ≤ total)
 run_here setting set x rest s p words total right budget small goes =
-    by_set set (rw (pairs_are setting set (x ∷ rest)) at budget) (rw (ends_are setting set (x ∷ rest) s right) at goes)
-  where
-    by_set : (set : CodeSet)
-        → words + owed (length (part_values p))
-        (or_leave (parts_cost setting (x ∷ rest)) (going_pairs set (going_from setting (x ∷ rest)))) ≤ total
-        → is_empty p && nat_le (leave 1 (parts_cost setting (x ∷ rest)))
-        (going_pairs set (going_from setting (x ∷ rest))).none ≡ false
-        → (0 < set_values set x) ×
-        (words + owed (length (part_values p) + set_values set x) (row_pairs set (row setting rest)) ≤ total)
-    by_set C40 b g =
-        goes_on p (parts_cost setting (x ∷ rest)) (set_values C40 x) words total (row setting rest).c40 b small g
-    by_set Text b g =
-        goes_on p (parts_cost setting (x ∷ rest)) (set_values Text x) words total (row setting rest).text b small g
-    by_set X12 b g =
-        goes_on p (parts_cost setting (x ∷ rest)) (set_values X12 x) words total (row setting rest).x12 b small g
+    let over = going_is setting set x rest in
+    goes_on p (parts_cost setting (x ∷ rest)) (set_values set x) words total (row_pairs set (row setting rest))
+    (rw over at (rw (pairs_are setting set (x ∷ rest)) at budget)) small
+    (rw over at (rw (ends_are setting set (x ∷ rest) s right) at goes))
 
 -- Where a run goes on, an item is there.
 run_some : (setting : Setting) (set : CodeSet) (m : List Item) (s : Step) (p : Waiting) (words total : ℕ)
     → IsRightStep setting m s → words + owed (length (part_values p)) (row_pairs set (row setting m)) ≤ total
     → total < never → is_empty p && run_ends set s ≡ false → 0 < length m
 run_some setting set [] s p words total right budget small goes =
-    absurd (by_set set (rw (pairs_are setting set []) at budget) (rw (ends_are setting set [] s right) at goes)) where
-      by_set : (set : CodeSet)
-          → words + owed (length (part_values p))
-          (or_leave (parts_cost setting []) (going_pairs set (going_from setting []))) ≤ total
-          → is_empty p && nat_le (leave 1 (parts_cost setting []))
-          (going_pairs set (going_from setting [])).none ≡ false
-          → ⊥
-      by_set C40 b g =
-          (let h = goes_on p (parts_cost setting []) 0 words total no_pairs b small g in omega (arith, h.0))
-      by_set Text b g =
-          (let h = goes_on p (parts_cost setting []) 0 words total no_pairs b small g in omega (arith, h.0))
-      by_set X12 b g =
-          (let h = goes_on p (parts_cost setting []) 0 words total no_pairs b small g in omega (arith, h.0))
+    let none = none_goes setting set in
+    let h = goes_on p (parts_cost setting []) 0 words total no_pairs
+    (rw none at (rw (pairs_are setting set []) at budget)) small
+    (rw none at (rw (ends_are setting set [] s right) at goes)) in
+    absurd (omega (arith, h.0))
 run_some setting set (x ∷ rest) s p words total right budget small goes = omega arith
 
 -- What is known of the item at an index where a run goes on.
@@ -146,7 +135,8 @@ pub first_at : (setting : Setting) (set : CodeSet) (m : List Item) (i : ℕ) (d 
 unfolding owed
 first_at setting set m i d words total lt budget small =
     let cons : drop i m ≡ get_or m i d ∷ drop (i + 1) m = at_drop_more (λ (l : List Item). l) m i d lt in
-    let h = by_set set (get_or m i d) (drop (i + 1) m) (rw cons at budget) in
+    let h = by_count (set_values set (get_or m i d)) (row_pairs set (row setting (drop (i + 1) m)))
+    (rw (going_is setting set (get_or m i d) (drop (i + 1) m)) at (rw cons at budget)) in
     record { there = lt; held = h.0; budget = h.1 } where
       by_count : (k : ℕ) (next : Pairs) → words + owed 0 (stay k next) ≤ total
           → (0 < k) × (words + owed (0 + k) next ≤ total)
@@ -154,13 +144,6 @@ first_at setting set m i d words total lt budget small =
       by_count (suc k) next b = let e : owed 0 (stay (suc k) next)
           ≡ owed (0 + suc k) next = ap (owed 0) (stay_is (suc k) next (omega arith))
           ∙ owed_values (suc k) 0 next in (omega arith, omega (arith, b, e))
-
-      by_set : (set : CodeSet) (x : Item) (rest : List Item)
-          → words + owed 0 (going_pairs set (going_from setting (x ∷ rest))) ≤ total
-          → (0 < set_values set x) × (words + owed (0 + set_values set x) (row_pairs set (row setting rest)) ≤ total)
-      by_set C40 x rest b = by_count (set_values C40 x) (row setting rest).c40 b
-      by_set Text x rest b = by_count (set_values Text x) (row setting rest).text b
-      by_set X12 x rest b = by_count (set_values X12 x) (row setting rest).x12 b
 
 -- The codewords of an item fit.
 pub item_room : (n words total : ℕ) (p : Pairs) → words + owed n p ≤ total → words + 2 * (n / 3) ≤ total
@@ -206,7 +189,4 @@ leave_at setting set m s p words total on right budget is none =
 
 -- Leaving costs one more where much follows.
 pub unlatched : (c : ℕ) → (c ≤ 1) ⊎ (leave 1 c ≡ 1 + c)
-unlatched c = by_test (nat_le c 1) refl where
-  by_test : (t : Bool) → nat_le c 1 ≡ t → (c ≤ 1) ⊎ (cond t c (1 + c) ≡ 1 + c)
-  by_test true e = inl (let le : c ≤ 1 = grind (arith, nat_tests) in le)
-  by_test false e = inr refl
+unlatched c = grind (arith, nat_tests, nat_le, cond)

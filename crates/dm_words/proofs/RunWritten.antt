@@ -1,15 +1,14 @@
 -- The runs that are written are runs.
 use Rattle.dm_words.proofs.Names.{◌≡◌, ℕ, ◌+◌, ◌-◌, ◌*◌, ◌/◌, ◌<◌, ◌≤◌, List, [], ◌∷◌, ◌++◌, length, take, drop, get_or}
-use Rattle.dm_words.proofs.Names.{add-one, append_assoc, refl, sym, ap, subst, ◌∙◌, arith, Some, None, true, false}
+use Rattle.dm_words.proofs.Names.{add-one, append_assoc, refl, sym, ap, subst, ◌∙◌, arith, Some, None, true}
 use Rattle.dm_words.proofs.Names.{AllByRecursion, nat_tests, append-nil, length-append, length-take, length-drop}
-use Rattle.dm_words.proofs.Names.{take-suc, Item, Byte, CodeSet, C40, Text, X12, Waiting, Extent, Usual, codeword_of}
+use Rattle.dm_words.proofs.Names.{take-suc, Item, Byte, CodeSet, Waiting, Extent, Usual, codeword_of}
 use Rattle.dm_words.proofs.Names.{Piece, spelled, gathered, whats, IsUpperShift, IsSpelling, filler, nothing, IsPair}
 use Rattle.dm_words.proofs.Names.{IsRun, IsRunEnd, unlatch, symbol_end, last_word, run, is_basic, set_values}
 use Rattle.dm_words.proofs.Names.{part_values, ArePushed, IsItemPushed, is_empty, NoUnlatchFirst, IsPartWritten}
 use Rattle.dm_words.proofs.Pieces.{all-append, spelled-append, spelled-last, whats-append, gathered-append}
 use Rattle.dm_words.proofs.Pieces.{gathered-last}
 use Rattle.dm_words.proofs.Runs.{pairs_room}
-use Rattle.dm_words.specs.declared.c40.set.Shift.TheVariants.{Two}
 use Rattle.dm_words.specs.inner.Written.{IsCharacterPushed, IsSmallPart, IsValuePushed}
 use Rattle.dm_words.specs.declared.codeword.Codeword.TheVariants as codeword
 use Rattle.dm_words.specs.Values.{character, raised}
@@ -24,11 +23,7 @@ spelled_low set byte old new item none is p =
 
 -- An Upper Shift is these values.
 upper : (set : CodeSet) (byte : ℕ) → 128 ≤ byte → 0 < set_values set (Byte byte) → IsUpperShift set (1 ∷ 30 ∷ [])
-upper C40 byte high some = record { first = 1; second = 30; shift = Two; is_shift = refl; means = refl; whole = refl }
-upper Text byte high some = record { first = 1; second = 30; shift = Two; is_shift = refl; means = refl; whole = refl }
-upper X12 byte high some =
-    absurd (let e : is_basic X12 byte ≡ false = grind (arith, nat_tests) in let s : 0 < 0 =
-    (rw e at some) in omega (arith, s))
+upper set byte h1 h2 = grind (arith, nat_tests, is_basic)
 
 -- A byte of 128 or more is spelled.
 pub spelled_raised : (set : CodeSet) (byte : ℕ) (old new : List ℕ) (item : Item) → old ≡ 1 ∷ 30 ∷ [] → item
@@ -136,14 +131,7 @@ pub record IsRunSoFar (set : CodeSet) (old new : List ℕ) (p : Waiting) (items 
 -- A run begins with its latch.
 pub run_begun : (set : CodeSet) (old new : List ℕ) (l : ℕ) → codeword_of l ≡ Some (codeword.Latch set) → new ≡ old
     ++ l ∷ [] → IsRunSoFar set old new Waiting.Empty []
-run_begun set old new l is e = record {
-  latch = l;
-  is_latch = is;
-  spellings = [];
-  each = tt;
-  items_are = refl;
-  pushed = rw e (none_pushed (old ++ l ∷ []) Waiting.Empty tt);
-}
+run_begun set old new l is e = grind (arith, nat_tests, none_pushed)
 
 -- One more item of a run.
 pub run_more : (set : CodeSet) (old words words' : List ℕ) (p p' : Waiting) (items : List Item) (x : Item)
@@ -164,8 +152,7 @@ run_more set old words words' p p' items x r i =
 -- A run that went on has some items.
 pub run_some : (m : List Item) (at next : ℕ) → at + 1 ≤ next → next ≤ length m
     → 0 < length (take (next - at) (drop at m))
-run_some m at next from within =
-    omega (arith, length-take (next - at) (drop at m), length-drop at m, from, within)
+run_some m at next from within = grind (arith, nat_tests, length-take, length-drop)
 
 -- All values of a run spell items.
 abbrev IsWholeRun : Extent → CodeSet → List ℕ → List ℕ → List Item → Type 0

@@ -1,7 +1,7 @@
 -- How many items and marks codewords say: at most two items for each, in the wide extent seven more, and a mark for
 -- each two.
 use Rattle.dm_words.proofs.Names.{◌≡◌, ℕ, zero, suc, ◌+◌, ◌*◌, ◌≤◌, List, [], ◌∷◌, ◌++◌, length, ap, ◌∙◌, arith}
-use Rattle.dm_words.proofs.Names.{length-append, ◌⊎◌, Extent, Usual, Wide, Item, Opening, Piece, spelled, whats}
+use Rattle.dm_words.proofs.Names.{length-append, Extent, Usual, Wide, Item, Opening, Piece, spelled, whats}
 use Rattle.dm_words.proofs.Names.{AreJoined, ContentView, Said, IsContentPart, part, mark, said_items, said_marks}
 use Rattle.dm_words.proofs.Names.{IsOpening, opening_items, closing_items, Says, as_content, most_spelled, Spells}
 use Rattle.dm_words.proofs.ContentLoops.{designator_some}
@@ -36,18 +36,12 @@ joined_few extent place before (p ∷ ps) after h =
     let long = length-append p.words (spelled ps) in
     (omega (arith, few.0, long), omega (arith, few.1, long))
 
--- Two items for each codeword are no more than can be spelled, and where there is a codeword, in the wide extent seven
--- more.
-within_most : (extent : Extent) (count n : ℕ) → (n ≤ 2 * count) ⊎ ((extent ≡ Wide) × (1 ≤ count) × (n ≤ 2 * count + 7))
-    → n ≤ most_spelled extent count
-within_most extent count n h1 = grind (arith, not_wide)
-
 -- What stands before and behind the parts is few items for the codewords of the opening.
 opening_few : (extent : Extent) (first more : List ℕ) (opening : Opening) (count n : ℕ)
     → IsOpening extent first more opening → length first ≤ count
     → n + 2 * length first ≤ length (opening_items opening) + length (closing_items opening) + 2 * count
     → n ≤ most_spelled extent count
-opening_few extent first more opening count n h1 h2 h3 = grind (arith, within_most, length-append)
+opening_few extent first more opening count n h1 h2 h3 = grind (arith, not_wide, length-append)
 
 -- Codewords that say a content say few items and marks.
 pub said_counts : (extent : Extent) (words : List ℕ) (l : ContentView) → Says extent words l

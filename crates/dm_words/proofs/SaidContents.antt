@@ -1,14 +1,15 @@
 -- What codewords say is a content: bytes of 0 to 255, and marks in order.
-use Rattle.dm_words.proofs.Names.{◌≡◌, ℕ, ◌+◌, ◌≤◌, ◌<◌, List, [], ◌∷◌, ◌++◌, length, sym, subst, arith, length-append}
-use Rattle.dm_words.proofs.Names.{AllByRecursion, All-from_recursion, Extent, Opening, IsItem}
-use Rattle.dm_words.proofs.Names.{Piece, spelled, whats, AreJoined, most_assigned, IsDesignator}
-use Rattle.dm_words.proofs.Names.{IsHead, ContentView, AreMarks, IsContent, Said, Items, Number, IsContentPart, part}
-use Rattle.dm_words.proofs.Names.{mark, said_items, said_marks, IsOpening, headed, framed, plain, opening_head}
-use Rattle.dm_words.proofs.Names.{opening_items, closing_items, said_content, AreContentParts, Says}
+use Rattle.dm_words.proofs.Names.{◌≡◌, ℕ, ◌+◌, ◌≤◌, List, [], ◌∷◌, ◌++◌, length, sym, subst, arith, length-append}
+use Rattle.dm_words.proofs.Names.{AllByRecursion, All-from_recursion, Extent, Opening, IsItem, Piece, spelled, whats}
+use Rattle.dm_words.proofs.Names.{AreJoined, most_assigned, IsDesignator, IsHead, ContentView, AreMarks, IsContent}
+use Rattle.dm_words.proofs.Names.{Said, Items, Number, IsContentPart, part, mark, said_items, said_marks, IsOpening}
+use Rattle.dm_words.proofs.Names.{opening_head, opening_items, closing_items, said_content, AreContentParts, Says}
+use Rattle.dm_words.proofs.Names.{nat_tests}
 use Rattle.dm_words.proofs.AsciiWords.{AreItems}
-use Rattle.dm_words.proofs.ItemBytes.{part_items, items-append, macro_byte}
+use Rattle.dm_words.proofs.ItemBytes.{part_items, macro_byte}
 use Rattle.dm_words.proofs.Heads.{head_only}
 use Rattle.dm_words.proofs.Marks.{more_items, lower}
+use Rattle.dm_words.proofs.Pieces.{all-append}
 
 -- What a part says is right: bytes of 0 to 255, or the number of an assignment.
 abbrev IsRight : Said → Type 0
@@ -38,7 +39,7 @@ parts_right extent place (p ∷ ps) after h = (
 -- The items that are said are items.
 items_right : (said : List Said) → AllByRecursion IsRight said → AreItems (said_items said)
 items_right [] h = tt
-items_right (Items items ∷ said) h = items-append items (said_items said) h.0 (items_right said h.1)
+items_right (Items items ∷ said) h = all-append IsItem items (said_items said) h.0 (items_right said h.1)
 items_right (Number number ∷ said) h = items_right said h.1
 
 -- The marks that are said are in order.
@@ -56,9 +57,7 @@ marks_right before (Number number ∷ said) h = (omega arith, h.0, marks_right b
 pub said_in_order : (extent : Extent) (before place : ℕ) (words : List ℕ) (said : List Said)
     → AreContentParts extent place words said
     → AreMarks before (before + length (said_items said)) (said_marks before said)
-said_in_order extent before place words said p =
-    marks_right before said
-    (subst (AllByRecursion IsRight) (sym p.said_are) (parts_right extent place p.parts p.after p.joined))
+said_in_order extent before place words said p = grind (arith, nat_tests, marks_right, parts_right)
 
 -- An opening is right: its head, and the items before and behind those of the parts.
 record IsRightOpening (opening : Opening) : Type 0 where
@@ -69,17 +68,7 @@ record IsRightOpening (opening : Opening) : Type 0 where
 -- An opening that is there is right.
 opening_right : (extent : Extent) (words more : List ℕ) (opening : Opening) → IsOpening extent words more opening
     → IsRightOpening opening
-opening_right extent words more opening (headed said wide s is) =
-    rw is (record { head = (head_only words said s).0; before = tt; behind = tt })
-opening_right extent words more opening (framed digit wide f is) =
-    let lt : digit < 256 = macro_byte f.word digit f.is_macro in
-    rw is (record {
-      head = tt;
-      before = (omega arith, (omega arith, (omega arith, (omega arith, (omega arith, (lt, (omega arith, tt)))))));
-      behind = (omega arith, (omega arith, tt));
-    })
-opening_right extent words more opening (plain e no_head no_frame is) =
-    rw is (record { head = tt; before = tt; behind = tt })
+opening_right extent words more opening h1 = grind (arith, nat_tests, head_only, macro_byte)
 
 -- What a right opening and right parts say is a content.
 said_right : (opening : Opening) (said : List Said) → IsRightOpening opening → AllByRecursion IsRight said
@@ -94,7 +83,8 @@ said_right opening said o r =
       head = o.head;
       items = All-from_recursion IsItem (before
           ++ (middle ++ behind))
-          (items-append before (middle ++ behind) o.before (items-append middle behind (items_right said r) o.behind));
+          (all-append IsItem before (middle ++ behind) o.before
+          (all-append IsItem middle behind (items_right said r) o.behind));
       marks = lower (length before) 0 (length (before ++ (middle ++ behind))) (said_marks (length before) said)
           (more_items (length before) (length before + length middle) (length (before ++ (middle ++ behind)))
           (said_marks (length before) said) (marks_right (length before) said r) le)

@@ -1,9 +1,8 @@
 -- A segment that follows the plan stays within its budget.
 use Rattle.dm_words.proofs.Names.{◌≡◌, ℕ, ◌+◌, ◌-◌, ◌<◌, ◌≤◌, List, [], ◌∷◌, ◌++◌, length, take, drop, get_or, refl}
-use Rattle.dm_words.proofs.Names.{sym, ap, subst, ◌∙◌, arith, Bool, true, false, cond, inl, inr, nat_le, ◌==◌, min}
-use Rattle.dm_words.proofs.Names.{nat_tests, length-drop, at_drop_more, Setting, Item, Byte, Fnc1, has_fnc1}
-use Rattle.dm_words.proofs.Names.{length_numbers, never, most_behind, rest_behind, parts_cost, segment_cost, going_from}
-use Rattle.dm_words.proofs.Names.{IsRightStep}
+use Rattle.dm_words.proofs.Names.{sym, ap, subst, ◌∙◌, arith, Bool, true, false, cond, nat_le, min, nat_tests}
+use Rattle.dm_words.proofs.Names.{length-drop, at_drop_more, Setting, Item, Byte, Fnc1, has_fnc1, length_numbers}
+use Rattle.dm_words.proofs.Names.{never, most_behind, rest_behind, parts_cost, segment_cost, going_from, IsRightStep}
 use Rattle.dm_words.specs.inner.Costs.{Bytes, Step, row}
 use Rattle.dm_words.proofs.NormalForms.{short_numbers, long_numbers}
 use Rattle.dm_words.proofs.CostsMet.{bytes_is, near_cases}
@@ -24,42 +23,11 @@ module _ (setting : Setting) where
     pub open_still : bytes_cost rest < parts_cost setting rest → near_of m ≡ count + near_of rest
 
   pub segment_begun : (b : ℕ) (rest : List Item) → IsSegmentSoFar (Byte b ∷ rest) rest 1
-  segment_begun b rest =
-      elim (near_cases setting b rest) [
-        | inl c ↦ record {
-          bytes = bytes_is setting b rest;
-          ended = λ le. c.1;
-          open_still =
-              λ lt. absurd (omega (arith, lt, c.0));
-        }
-        | inr c ↦ record {
-          bytes = bytes_is setting b rest;
-          ended = λ le. absurd (omega (arith, le, c.0));
-          open_still =
-              λ lt. c.1;
-        }
-      ]
+  segment_begun b rest = grind (arith, nat_tests, near_cases, bytes_is)
 
   pub segment_more : (m : List Item) (b count : ℕ) (rest : List Item) → IsSegmentSoFar m (Byte b ∷ rest) count
       → bytes_cost (Byte b ∷ rest) < parts_cost setting (Byte b ∷ rest) → IsSegmentSoFar m rest (count + 1)
-  segment_more m b count rest s goes =
-      let o = s.open_still goes in
-      let y : bytes_cost m ≡ count + 1 + min (parts_cost setting rest) (bytes_cost rest) =
-      omega (arith, s.bytes, goes, bytes_is setting b rest) in
-      elim (near_cases setting b rest) [
-        | inl c ↦ record {
-          bytes = y;
-          ended = λ le. omega (arith, o, c.1);
-          open_still =
-              λ lt. absurd (omega (arith, lt, c.0));
-        }
-        | inr c ↦ record {
-          bytes = y;
-          ended = λ le. absurd (omega (arith, le, c.0));
-          open_still =
-              λ lt. omega (arith, o, c.1);
-        }
-      ]
+  segment_more m b count rest s goes = grind (arith, nat_tests, bytes_cost, min, parts_cost, bytes_is, near_cases)
 
   -- The next item is a byte where the segment goes on.
   pub byte_next : (x : Item) (rest : List Item) → bytes_cost (x ∷ rest) < parts_cost setting (x ∷ rest)
@@ -71,8 +39,7 @@ module _ (setting : Setting) where
   -- The costs of a segment are those of going on.
   segment_are : (m : List Item) → (row setting m).segment ≡ (going_from setting m).segment
   unfolding row
-  segment_are [] = refl
-  segment_are (x ∷ m) = refl
+  segment_are m = grind (arith, nat_tests)
 
   -- The first item is a byte where a segment goes on over it.
   pub first_byte : (m : List Item) → 0 < length m → (going_from setting m).segment.bytes < never
@@ -98,8 +65,7 @@ module _ (setting : Setting) where
   -- The plan says whether a segment ends.
   ends_are : (m : List Item) (s : Step) → IsRightStep setting m s → s.segment_ends
       ≡ nat_le (parts_cost setting m) (bytes_cost m)
-  ends_are m s r = ap (λ (t : Step). t.segment_ends) r.ends
-      ∙ ap (λ (t : Bytes). nat_le (parts_cost setting m) t.bytes) (sym (segment_are m))
+  ends_are m s r = grind (arith, nat_tests, nat_le, parts_cost, segment_are)
 
   -- Bytes and one more.
   byte_more : (a : List Item) (b : ℕ) → has_fnc1 a ≡ false → has_fnc1 (a ++ Byte b ∷ []) ≡ false
@@ -160,36 +126,12 @@ module _ (setting : Setting) where
       → segment_cost (going_from setting (drop from m)).segment.bytes (going_from setting (drop from m)).segment.near
       ≡ 1 + length (length_numbers (i - from)) + (i - from) + parts_cost setting (drop i m)
   ended_at m from i s right ends so_far =
-      subst (λ (t : Bytes). segment_cost t.bytes t.near
-      ≡ 1 + length (length_numbers (i - from)) + (i - from) + parts_cost setting (drop i m))
-      (segment_are (drop from m)) here where
-        le : parts_cost setting (drop i m) ≤ bytes_cost (drop i m)
-        le = let t : nat_le (parts_cost setting (drop i m)) (bytes_cost (drop i m))
-            ≡ true = sym (ends_are (drop i m) s right) ∙ ends in grind (arith, nat_tests)
-
-        y : bytes_cost (drop from m) ≡ (i - from) + parts_cost setting (drop i m)
-        y = omega (arith, so_far.bytes, le)
-
-        by_test : (t : Bool) → nat_le (i - from) 249 ≡ t
-            → cond t (2 + bytes_cost (drop from m)) (3 + bytes_cost (drop from m))
-            ≡ 1 + length (length_numbers (i - from)) + (i - from) + parts_cost setting (drop i m)
-        by_test true e = let few : i - from ≤ 249 =
-            grind (arith, nat_tests) in omega (arith, y, ap length (short_numbers (i - from) few))
-        by_test false e = let many : 249 < i - from =
-            grind (arith, nat_tests) in omega (arith, y, ap length (long_numbers (i - from) many))
-
-        here : segment_cost (bytes_cost (drop from m)) (near_of (drop from m))
-            ≡ 1 + length (length_numbers (i - from)) + (i - from) + parts_cost setting (drop i m)
-        here = cc (so_far.ended le, by_test (nat_le (i - from) 249) refl)
+      grind (arith, nat_tests, segment_are, bytes_cost, ends_are, short_numbers, long_numbers, near_of)
 
   -- A segment up to the end of the symbol has all items, and nothing follows them.
   pub rest_is : (m : List Item) → (going_from setting m).segment.rest < never
       → (has_fnc1 m ≡ false) × ((going_from setting m).segment.rest ≡ length m) × (setting.behind ≡ 0)
-  rest_is [] small = let h = by_test (setting.behind == 0) refl small in (refl, h.0, h.1) where
-    by_test : (t : Bool) → (setting.behind == 0) ≡ t → cond t 0 never < never
-        → (rest_behind setting.behind ≡ 0) × (setting.behind ≡ 0)
-    by_test true e lt = (rw e refl, grind (arith, nat_tests))
-    by_test false e lt = absurd (omega (arith, lt))
+  rest_is [] small = grind (arith, nat_tests, cond, never, rest_behind)
   rest_is (Fnc1 ∷ m) small = absurd (omega (arith, small))
   rest_is (Byte b ∷ m) small =
       let same : (row setting m).segment.rest ≡ (going_from setting m).segment.rest =

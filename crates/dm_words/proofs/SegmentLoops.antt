@@ -4,7 +4,7 @@ use Rattle.dm_words.proofs.Names.{get_or, refl, sym, ap, subst, ◌∙◌, appen
 use Rattle.dm_words.proofs.Names.{Some, take-append-drop, length-take, get_or-drop, length-drop, nil_from_length}
 use Rattle.dm_words.proofs.Names.{take_all, take-suc, drop-cons, Item, Byte, WordFault, long_count, IsLengthField}
 use Rattle.dm_words.proofs.Names.{short, long, missing, past_short, no_second, wrong_second, past_long, byte_items}
-use Rattle.dm_words.proofs.Names.{Step, Takes, Stops}
+use Rattle.dm_words.proofs.Names.{Step, Takes, Stops, nat_tests}
 use Rattle.dm_words.specs.declared.fault.WordFault.TheVariants as fault
 use Rattle.dm_words.specs.inner.Scan.Prefixes.{plain_at, plain, segment_behind}
 use Rattle.dm_words.proofs.Segments.{segment_again, bad_again}
@@ -24,8 +24,7 @@ get_or-plain : (place : ℕ) (ws : List ℕ) (i : ℕ) → i < length ws → get
     ≡ plain_at (place + i) (get_or ws i 0)
 get_or-plain place [] i lt = absurd (omega arith)
 get_or-plain place (w ∷ ws) zero lt = rw add-zero refl
-get_or-plain place (w ∷ ws) (suc i) lt = get_or-plain (place + 1) ws i (omega arith)
-    ∙ ap (λ (k : ℕ). plain_at k (get_or ws i 0)) (omega arith)
+get_or-plain place (w ∷ ws) (suc i) lt = grind (arith, nat_tests, plain_at, get_or-plain (place + 1) ws i (omega arith))
 
 -- One more byte is read.
 pub bytes_more : (words : List ℕ) (start i b : ℕ) (first old new : List Item) → start + i < length words → b
@@ -90,10 +89,7 @@ module _ (words : List ℕ) (at : ℕ) where
 
     -- The values behind the latch are the first length number and these.
     values_are : plain (at + 2) (drop (at + 1) words) ≡ d ∷ others
-    values_are =
-        plain_first words (at + 2) (at + 1) d lt (is
-        ∙ ap (λ (k : ℕ). plain_at k (get_or words (at + 1) 0)) (omega arith))
-        ∙ ap (λ (k : ℕ × ℕ). d ∷ plain k.0 (drop k.1 words)) (pair_path (omega arith) (omega arith))
+    values_are = grind (arith, nat_tests, plain_first, plain_at, plain, pair_path)
 
     -- There are as many of these values as codewords behind the first length number.
     length-others : length others ≡ length words - at - 2
@@ -103,10 +99,7 @@ module _ (words : List ℕ) (at : ℕ) where
     pub to_the_end_found : d ≡ 0
         → Finds (Takes (length words - at - 1 + 1) (byte_items (take (length words - at - 1 - 1) others)))
     unfolding segment_behind
-    to_the_end_found zero_d =
-        let all : take (length words - at - 1 - 1) others ≡ others = take_all _ others (omega (arith, length-others)) in
-        let n : 2 + length others ≡ length words - at - 1 + 1 = omega (arith, length-others) in
-        rw (values_are, zero_d, all, ← n) refl
+    to_the_end_found zero_d = grind (arith, nat_tests, others, take_all, length-others, values_are)
 
     -- The length is bad where fewer bytes are left than one length number says.
     pub past_short_found : d ≤ 249 → length words - at - 1 - 1 < d → Bad
@@ -136,8 +129,7 @@ module _ (words : List ℕ) (at : ℕ) where
 
       -- The values behind the first length number are the second one and these.
       others_are : others ≡ f ∷ more
-      others_are = plain_first words (at + 2 + 1) (at + 2) f lt2 is2
-          ∙ ap (λ (k : ℕ × ℕ). f ∷ plain k.0 (drop k.1 words)) (pair_path (omega arith) (omega arith))
+      others_are = grind (arith, nat_tests, plain_first, plain, pair_path)
 
       -- There are as many of these values as codewords behind the second length number.
       length-more : length more ≡ length words - at - 3

@@ -1,5 +1,5 @@
 -- A segment that the scan finds is a segment of the definition.
-use Rattle.dm_words.proofs.Names.{◌≡◌, ℕ, zero, suc, ◌+◌, ◌-◌, ◌*◌, ◌%◌, ◌<◌, ◌≤◌, List, [], ◌∷◌, ◌++◌, length, take}
+use Rattle.dm_words.proofs.Names.{◌≡◌, ℕ, suc, ◌+◌, ◌-◌, ◌*◌, ◌%◌, ◌<◌, ◌≤◌, List, [], ◌∷◌, ◌++◌, length, take}
 use Rattle.dm_words.proofs.Names.{drop, refl, sym, ap, ◌∙◌, append_assoc, add-zero, arith, Bool, true, false, cond, eqb}
 use Rattle.dm_words.proofs.Names.{ltb, Option, Some, None, eqb-true, ltb-false, nat_tests, take_at, append-nil}
 use Rattle.dm_words.proofs.Names.{length-append, length-take, take-append-drop, Item, WordFault, codeword_of, random_at}
@@ -13,6 +13,7 @@ use Rattle.dm_words.specs.Base256.{IsBadLength, IsFaultySegment}
 use Rattle.dm_words.specs.inner.Scan.Prefixes.{plain, segment_by, long_segment, segment_behind}
 use Rattle.dm_words.proofs.Pairs.{IsBytes}
 use Rattle.dm_words.proofs.Runs.{cut_behind_prefix}
+use Rattle.dm_words.proofs.Pieces.{all-append, all-take}
 
 -- ---- written values and plain ones
 
@@ -54,25 +55,12 @@ plain_small place (w ∷ ws) = (omega arith, plain_small (place + 1) ws)
 pub written-append : (place : ℕ) (a b : List ℕ) → written place (a ++ b) ≡ written place a
     ++ written (place + length a) b
 written-append place [] b = rw add-zero refl
-written-append place (v ∷ a) b =
-    ap (λ (r : List ℕ). ((v + random_at place) % 256) ∷ r) (written-append (place + 1) a b
-    ∙ ap (λ (k : ℕ). written (place + 1) a ++ written k b) (omega arith))
+written-append place (v ∷ a) b = grind (arith, nat_tests, random_at, written, written-append (place + 1) a b)
 
 -- Each value is written as one codeword.
 pub length-written : (place : ℕ) (vs : List ℕ) → length (written place vs) ≡ length vs
 length-written place [] = refl
 length-written place (v ∷ vs) = ap suc (length-written (place + 1) vs)
-
--- The first n bytes are bytes.
-AreBytes-take : (n : ℕ) (vs : List ℕ) → AreBytes vs → AreBytes (take n vs)
-AreBytes-take zero vs fit = tt
-AreBytes-take (suc n) [] fit = tt
-AreBytes-take (suc n) (v ∷ vs) fit = (fit.0, AreBytes-take n vs fit.1)
-
--- Two lists of bytes, joined, are bytes.
-pub AreBytes-append : (a b : List ℕ) → AreBytes a → AreBytes b → AreBytes (a ++ b)
-AreBytes-append [] b fa fb = fb
-AreBytes-append (v ∷ a) b fa fb = (fa.0, AreBytes-append a b fa.1 fb)
 
 -- ---- what is found is right
 
@@ -138,13 +126,14 @@ module _ (place w : ℕ) (is_latch : codeword_of w ≡ Some codeword.Base256) (w
       → SegmentJudged place (w ∷ words)
       (cond b (Stops (Some (fault.Length place))) (Takes (1 + length field + n) (byte_items (take n values))))
   by_count field values n true e ff fit eb bad good =
-      faulty (field ++ values) e (AreBytes-append field values ff fit) (bad (ltb-true _ _ eb))
+      faulty (field ++ values) e (all-append (λ w. w < 256) field values ff fit) (bad (ltb-true _ _ eb))
   by_count field values n false e ff fit eb bad good =
       let le : n ≤ length values = ltb-false _ _ eb in
       let len : length (take n values) ≡ n = omega (arith, length-take n values) in
       let regrouped : words ≡ written (place + 1) ((field ++ take n values) ++ drop n values) =
       cc (take-append-drop n values, append_assoc field (take n values) (drop n values)) in
-      taken field (take n values) (drop n values) (1 + length field + n) regrouped (AreBytes-take n values fit)
+      taken field (take n values) (drop n values) (1 + length field + n) regrouped
+      (all-take (λ v. v < 256) n values fit).0
       (good (length (take n values)) _ len) (omega (arith, len))
 
   -- What is found by the second length number is right.
@@ -187,15 +176,12 @@ module _ (place w : ℕ) (is_latch : codeword_of w ≡ Some codeword.Base256) (w
   by_values : (values : List ℕ) → words ≡ written (place + 1) values → AreBytes values
       → SegmentJudged place (w ∷ words) (segment_behind place values)
   unfolding segment_behind
-  by_values [] eq fit = faulty [] eq fit (missing refl)
-  by_values (d ∷ values) eq fit = by_first d values _ _ eq fit refl refl
+  by_values values h1 h2 = grind (arith, nat_tests, faulty, missing, by_first)
 
 -- A segment that is found is a segment, and a bad length is bad.
 pub segment_judged : (place w : ℕ) (words : List ℕ) → codeword_of w ≡ Some codeword.Base256 → IsBytes words
     → SegmentJudged place (w ∷ words) (segment_behind place (plain (place + 1) words))
-segment_judged place w words is_latch fit =
-    by_values place w is_latch words (plain (place + 1) words) (sym (written-plain (place + 1) words fit))
-    (plain_small (place + 1) words)
+segment_judged place w words is_latch fit = grind (arith, nat_tests, by_values, plain, written-plain, plain_small)
 
 -- ---- what is right is found
 
@@ -229,9 +215,7 @@ plain-append place (v ∷ vs) ws fit =
 
 -- Length numbers are 0 to 255.
 field_fits : (field : List ℕ) (count : ℕ) (after : List ℕ) → IsLengthField field count after → AreBytes field
-field_fits field count after (to_the_end f m) = rw f (omega arith, tt)
-field_fits field count after (short d pos le f len) = rw f (omega arith, tt)
-field_fits field count after (long d e big small le f len) = rw f (small, (omega arith, tt))
+field_fits field count after h1 = grind (arith, nat_tests)
 
 -- A length field says the same before the words and before their values.
 field_before : (place : ℕ) (field : List ℕ) (count : ℕ) (after : List ℕ) → IsLengthField field count after
@@ -245,7 +229,8 @@ pub segment_complete : (place : ℕ) (words after : List ℕ) (items : List Item
     → SegmentFound place (words ++ after) (Takes (length words) items) × (0 < length words)
 segment_complete place words after items s =
     let q = place + 1 + length (s.field ++ s.bytes) in
-    let fit = AreBytes-append s.field s.bytes (field_fits s.field (length s.bytes) after s.counted) s.in_range in
+    let fit = all-append (λ w. w < 256) s.field s.bytes
+    (field_fits s.field (length s.bytes) after s.counted) s.in_range in
     let len : 1 + length s.field + length s.bytes
     ≡ length words =
     omega (

@@ -29,8 +29,7 @@ one_before old new after word rest is k =
 one_passes_here : (setting : Setting) (x : Item) (rest : List Item) (s : Step) (old new : List ℕ)
     → setting.behind ≤ most_behind → length rest ≤ 3122 → IsRightStep setting (x ∷ rest) s → s.begins ≡ One
     → new ≡ old ++ item_words x → PassesSign old new (x ∷ rest) rest
-one_passes_here setting Fnc1 rest s old new small few right begins is after k =
-    (after, ap (λ (l : List ℕ). l ++ after) is ∙ append_assoc old (232 ∷ []) after)
+one_passes_here setting Fnc1 rest s old new small few right begins is after k = grind (arith, nat_tests, append_assoc)
 one_passes_here setting (Byte b) [] s old new small few right begins is after k =
     no_sign old new (item_words (Byte b)) (Byte b ∷ []) [] refl is after k
 one_passes_here setting (Byte b) (Byte c ∷ []) s old new small few right begins is after k =

@@ -43,48 +43,23 @@ no_first w rest k is other none = by_rest rest none (w == 232) refl where
 
 -- So it is where none stands before others.
 never_alone : (k : Codeword) (rest : List ℕ) → ((n : ℕ) → is_alone (Some k) n ≡ false) → IsNoSign (Some k) rest
-never_alone k [] none = tt
-never_alone k (next ∷ rest) none = rw (none (length rest)) (and_false (next == 232)) where
-  and_false : (t : Bool) → t && false ≡ false
-  and_false true = refl
-  and_false false = refl
+never_alone k rest h1 = grind (arith, nat_tests, rest)
 
 -- And where another codeword than 232 follows.
 other_next : (k : Codeword) (rest : List ℕ) → ((more : List ℕ) → rest ≡ 232 ∷ more → ⊥) → IsNoSign (Some k) rest
-other_next k [] other = tt
-other_next k (next ∷ rest) other = by_test (next == 232) refl where
-  by_test : (t : Bool) → (next == 232) ≡ t → (t && is_alone (Some k) (length rest)) ≡ false
-  by_test false e = refl
-  by_test true e = absurd (other rest (let same : next ≡ 232 = grind (arith, nat_tests) in
-      ap (λ (n : ℕ). n ∷ rest) same))
+other_next k rest h1 = grind (arith, nat_tests, is_alone, rest)
 
 -- And where more codewords follow than would end a run.
 more_follow : (k : Codeword) (n : ℕ) (rest : List ℕ) → n < length rest
     → ((m : ℕ) → n ≤ m → is_alone (Some k) m ≡ false) → IsNoSign (Some k) rest
-more_follow k n [] long none = tt
-more_follow k n (next ∷ rest) long none =
-    rw (none (length rest) (omega (arith, long))) (and_false (next == 232)) where
-      and_false : (t : Bool) → t && false ≡ false
-      and_false true = refl
-      and_false false = refl
+more_follow k n rest h1 h2 = grind (arith, nat_tests, rest)
 
 -- ---- parts that begin with FNC1
 
 -- A part that begins with 232 says FNC1 first.
 unit_fnc1 : (words more : List ℕ) (items : List Item) → IsAsciiUnit words items → (after : List ℕ)
     → words ++ after ≡ 232 ∷ more → BeginsFnc1 items
-unit_fnc1 words more items (character w b k e i) after is =
-    let f : w ∷ after ≡ 232 ∷ more = sym (ap (λ (l : List ℕ). l ++ after) e) ∙ is in
-    let same : w ≡ 232 = cc in
-    absurd (let g : Some (codeword.Character b) ≡ Some codeword.Fnc1 = sym k ∙ ap codeword_of same in cc)
-unit_fnc1 words more items (digits w n k e i) after is =
-    let f : w ∷ after ≡ 232 ∷ more = sym (ap (λ (l : List ℕ). l ++ after) e) ∙ is in
-    let same : w ≡ 232 = cc in
-    absurd (let g : Some (codeword.Digits n) ≡ Some codeword.Fnc1 = sym k ∙ ap codeword_of same in cc)
-unit_fnc1 words more items (fnc1 w k e i) after is = subst BeginsFnc1 (sym i) tt
-unit_fnc1 words more items (raised s w b k l e i) after is =
-    let same : s ≡ 232 = cc in
-    absurd (let g : Some codeword.UpperShift ≡ Some codeword.Fnc1 = sym k ∙ ap codeword_of same in cc)
+unit_fnc1 words more items h1 after h2 = grind (arith, nat_tests, codeword_of)
 
 -- A codeword with another meaning isn't 232.
 not_fnc1 : (w : ℕ) (k : Codeword) (words rest after more : List ℕ) → codeword_of w ≡ Some k
@@ -93,25 +68,15 @@ not_fnc1 w k words rest after more h1 h2 h3 h4 = grind (arith, nat_tests)
 
 part_fnc1 : (place : ℕ) (words follow more after : List ℕ) (items : List Item)
     → IsPlainPart place words follow items → words ++ after ≡ 232 ∷ more → BeginsFnc1 items
-part_fnc1 place words follow more after items (plainly.ascii u) is = unit_fnc1 words more items u after is
-part_fnc1 place words follow more after items (plainly.run set r none some) is =
-    absurd (not_fnc1 r.latch (codeword.Latch set) words _ after more r.is_latch (λ e. cc) r.whole is)
-part_fnc1 place words follow more after items (plainly.segment s some) is =
-    absurd (not_fnc1 s.latch codeword.Base256 words _ after more s.is_latch (λ e. cc) s.whole is)
-part_fnc1 place words follow more after items (plainly.edifact r some) is =
-    absurd (not_fnc1 r.latch codeword.Edifact words _ after more r.is_latch (λ e. cc) r.whole is)
+part_fnc1 place words follow more after items h1 h2 = grind (arith, nat_tests, unit_fnc1, not_fnc1)
 
 begins_more : (items more : List Item) → BeginsFnc1 items → BeginsFnc1 (items ++ more)
-begins_more [] more b = absurd b
-begins_more (Byte byte ∷ items) more b = absurd b
-begins_more (Fnc1 ∷ items) more b = tt
+begins_more items more h1 = grind (arith, nat_tests)
 
 said_fnc1 : (place : ℕ) (words follow more after : List ℕ) (said : Said) (others : List Said)
     → IsPlainSaid place words follow said → words ++ after ≡ 232 ∷ more → BeginsFnc1 (first_said (said ∷ others))
-said_fnc1 place words follow more after said others (part items p is) e =
-    rw is (begins_more items (first_said others) (part_fnc1 place words follow more after items p e))
-said_fnc1 place words follow more after said others (mark d n is whole all) e =
-    absurd (not_fnc1 241 codeword.LeftOut words d after more refl (λ f. cc) whole e)
+said_fnc1 place words follow more after said others h1 h2 =
+    grind (arith, nat_tests, begins_more, first_said, part_fnc1, not_fnc1)
 
 -- So do parts that are joined, before an end.
 pub joined_fnc1 : (place : ℕ) (ps : List (Piece Said)) (after more : List ℕ) → AreJoined IsPlainSaid place ps after
@@ -284,8 +249,7 @@ signs (Byte b ∷ Byte c ∷ Fnc1 ∷ m) = both (is_digit b) (is_digit c) refl r
 
 -- With a sign, what follows doesn't count.
 signed_first : (rest : List ℕ) → fnc1_number (232 ∷ rest) ≡ 2
-signed_first [] = refl
-signed_first (w ∷ others) = refl
+signed_first rest = grind (arith, nat_tests)
 
 signed_second : (w : ℕ) (rest : List ℕ) → ((n : ℕ) → is_alone (codeword_of w) n ≡ true)
     → fnc1_number (w ∷ 232 ∷ rest) ≡ fnc1_number (w ∷ 232 ∷ [])

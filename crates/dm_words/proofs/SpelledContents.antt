@@ -1,19 +1,19 @@
 -- Codewords that spell a message are parts of it, and parts of a message say it as a content.
 use Rattle.dm_words.proofs.Names.{◌≡◌, ℕ, ◌+◌, List, [], ◌∷◌, ◌++◌, length, refl, sym, subst, ap, ◌∙◌, append_assoc}
 use Rattle.dm_words.proofs.Names.{arith, Some, None, inl, inr, ◌⊎◌, append-nil, CodeSet, Extent, Wide, Item}
-use Rattle.dm_words.proofs.Names.{ContentFault, Head, Opening, Plain, Framed, codeword_of, unlatch_word, Piece, spelled}
-use Rattle.dm_words.proofs.Names.{gathered, whats, AreJoined, unlatch, filler, nothing, IsPart, run, AreParts, Spells}
-use Rattle.dm_words.proofs.Names.{left_out, always, macro_behind, ContentView, Said, Items, IsContentPart, part, mark}
-use Rattle.dm_words.proofs.Names.{AreContentParts, said_items, said_marks, AreEmptyRuns, AreFrame, BeginsFrame}
-use Rattle.dm_words.proofs.Names.{BeginsWithHeadWord, IsOpening, headed, framed, opening_head, opening_items}
-use Rattle.dm_words.proofs.Names.{closing_items, AreOpened, Says, IsContentFault, word, HaveContentFault, macro_text}
-use Rattle.dm_words.proofs.Names.{IsPlainPart, IsPlainSaid}
+use Rattle.dm_words.proofs.Names.{ContentFault, Plain, Framed, codeword_of, unlatch_word, Piece, spelled, gathered}
+use Rattle.dm_words.proofs.Names.{whats, AreJoined, unlatch, filler, nothing, IsPart, run, AreParts, Spells, left_out}
+use Rattle.dm_words.proofs.Names.{always, macro_behind, ContentView, Said, Items, IsContentPart, part}
+use Rattle.dm_words.proofs.Names.{AreContentParts, said_items, said_marks, AreEmptyRuns, BeginsFrame}
+use Rattle.dm_words.proofs.Names.{BeginsWithHeadWord, framed, AreOpened, IsContentFault, word, HaveContentFault}
+use Rattle.dm_words.proofs.Names.{macro_text, IsPlainPart, IsPlainSaid, ArePads, SaysThenPads, as_content}
 use Rattle.dm_words.specs.declared.codeword.Codeword.TheVariants as codeword
 use Rattle.dm_words.specs.declared.fault.WordFault.TheVariants as word_fault
 use Rattle.dm_words.specs.declared.contents.fault.ContentFault.TheVariants as fault
 use Rattle.dm_words.specs.Contents.{plain as opens_plain}
 use Rattle.dm_words.specs.Plain as plainly
 use Rattle.dm_words.proofs.WholeContents.{parts_read, fault_read}
+use Rattle.dm_words.specs.Laws.{AreMacro}
 
 -- An empty run is a part of a message.
 empty_run : (place latch unlatch_there : ℕ) (set : CodeSet) (after : List ℕ) → codeword_of latch
@@ -136,22 +136,6 @@ opened_plain extent words more said whole parts =
       place_is = refl;
     }
 
--- Parts of a content from the first place on say a content without a head.
-pub plain_content : (extent : Extent) (words : List ℕ) (said : List Said) (items : List Item)
-    → AreContentParts extent 1 words said → said_items said ≡ items
-    → Says extent words (record { head = None; items = items; marks = said_marks 0 said })
-plain_content extent words said items parts is = record {
-  opening = Plain;
-  place = 1;
-  more = words;
-  opened = opened_plain extent words words said refl parts;
-  said = said;
-  parts = parts;
-  content_is =
-      ap (λ (i : List Item). let l : ContentView = record { head = None; items = i; marks = said_marks 0 said } in l)
-      (sym is ∙ sym (append-nil (said_items said)));
-}
-
 -- Pieces of a message, as pieces of a content.
 abbrev pub as_said : List (Piece (List Item)) → List (Piece Said)
 as_said [] = []
@@ -206,8 +190,22 @@ said_parts extent place words items p = record {
 pub parts_spell : (extent : Extent) (words : List ℕ) (m : List Item) → AreParts extent 1 words m
     → Spells extent words m
 parts_spell extent words m p =
-    let l = plain_content _ _ _ m (said_parts _ 1 _ m p) (same_items p.parts ∙ sym p.items_are) in
-    rw (no_marks 0 p.parts) at l
+    let parts = said_parts extent 1 words m p in
+    record {
+      opening = Plain;
+      place = 1;
+      more = words;
+      opened = opened_plain extent words words (whats (as_said p.parts)) refl parts;
+      said = whats (as_said p.parts);
+      parts = parts;
+      content_is = rw (same_items p.parts, no_marks 0 p.parts, append-nil (gathered p.parts), ← p.items_are) refl;
+    }
+
+-- With pads behind them they say it as a content.
+pub parts_say : (extent : Extent) (words : List ℕ) (m : List Item) (p : AreParts extent 1 words m)
+    → ArePads words p.after → SaysThenPads extent words (as_content m)
+unfolding parts_spell said_parts
+parts_say extent words m p pads = record { says = parts_spell extent words m p; pads = pads }
 
 -- Behind a macro they spell its text, in the wide extent.
 pub macro_spells : (extent : Extent) (w digit : ℕ) (words more : List ℕ) (text : List Item) → extent ≡ Wide
@@ -229,90 +227,7 @@ macro_spells extent w digit words more text wide k whole p = record {
   content_is = rw (same_items p.parts, no_marks 7 p.parts, ← p.items_are) refl;
 }
 
--- ---- the other way
-
--- Parts of a content that say no mark, as parts of a message.
-record Unmarked (extent : Extent) (place : ℕ) (ps : List (Piece Said)) (after : List ℕ) : Type 0 where
-  parts : List (Piece (List Item))
-  joined : AreJoined (IsPart extent) place parts after
-  words : spelled ps ≡ spelled parts
-  items : said_items (whats ps) ≡ gathered parts
-
--- Parts of a content that say no mark are parts of a message.
-unmarked : (extent : Extent) (place before : ℕ) (ps : List (Piece Said)) (after : List ℕ)
-    → AreJoined (IsContentPart extent) place ps after → said_marks before (whats ps) ≡ []
-    → Unmarked extent place ps after
-unmarked extent place before [] after h none = record { parts = []; joined = tt; words = refl; items = refl }
-unmarked extent place before (p ∷ ps) after h none =
-    by_part h.0 (λ b e. unmarked extent (place + length p.words) b ps after h.1 e) where
-      by_part : IsContentPart extent place p.words (spelled ps ++ after) p.what
-          → ((b : ℕ) → said_marks b (whats ps) ≡ [] → Unmarked extent (place + length p.words) ps after)
-          → Unmarked extent place (p ∷ ps) after
-      by_part (mark d number wide e whole is) again =
-          absurd cc
-      by_part (part items q is) again =
-          let rest : said_marks (before + length items) (whats ps) ≡ [] = cc in
-          let r = again (before + length items) rest in
-          let one : Piece (List Item) = record { words = p.words; what = items } in
-          record {
-            parts = one ∷ r.parts;
-            joined = (subst (λ (w : List ℕ). IsPart extent place p.words (w ++ after) items) r.words q, r.joined);
-            words = ap (λ (w : List ℕ). p.words ++ w) r.words;
-            items = ap (λ (s : Said). said_items (s ∷ whats ps)) is ∙ ap (λ (i : List Item). items ++ i) r.items;
-          }
-
--- Parts that say no mark are parts of a message.
-unmarked_parts : (extent : Extent) (place before : ℕ) (words : List ℕ) (said : List Said)
-    → AreContentParts extent place words said → said_marks before said ≡ []
-    → AreParts extent place words (said_items said)
-unmarked_parts extent place before words said p none =
-    let r = unmarked extent place before p.parts p.after p.joined (ap (said_marks before) (sym p.said_are) ∙ none) in
-    record {
-      parts = r.parts;
-      after = p.after;
-      joined = r.joined;
-      ended = p.ended;
-      whole = p.whole ∙ ap (λ (w : List ℕ). w ++ p.after) r.words;
-      items_are = ap said_items p.said_are ∙ r.items;
-    }
-
--- Codewords that spell a message are parts of it; or a macro behind empty runs and parts of its text.
-pub data HasMessage (extent : Extent) (words : List ℕ) (m : List Item) : Type 0 where
-  in_parts : AreParts extent 1 words m → HasMessage extent words m
-  in_frame : (first more : List ℕ) (digit : ℕ) (text : List Item) → extent ≡ Wide → AreFrame first digit
-      → words ≡ first ++ more → AreParts extent (1 + length first) more text → m ≡ macro_text digit text
-      → HasMessage extent words m
-
--- There is no head where there is none.
-no_head : (said : Head) → None ≡ Some said → ⊥
-no_head said e = cc
-
--- What codewords spell they have.
-pub spelled_has : (extent : Extent) (words : List ℕ) (m : List Item) → Spells extent words m
-    → HasMessage extent words m
-spelled_has extent words m s = by_opening s.opened.is_opening where
-  marks_by : (o : Opening) → s.opening ≡ o → said_marks (length (opening_items o)) s.said ≡ []
-  marks_by o is = sym (ap (λ (l : ContentView). l.marks) s.content_is
-      ∙ ap (λ (o : Opening). said_marks (length (opening_items o)) s.said) is)
-
-  items_by : (o : Opening) → s.opening ≡ o → m ≡ opening_items o ++ (said_items s.said ++ closing_items o)
-  items_by o is = ap (λ (l : ContentView). l.items) s.content_is
-      ∙ ap (λ (o : Opening). opening_items o ++ (said_items s.said ++ closing_items o)) is
-
-  parts_at : (place : ℕ) → s.place ≡ place → AreContentParts extent place s.more s.said
-  parts_at place is = subst (λ (p : ℕ). AreContentParts extent p s.more s.said) is s.parts
-
-  by_opening : IsOpening extent s.opened.first s.more s.opening → HasMessage extent words m
-  by_opening (headed said wide h is) =
-      absurd (no_head said (ap (λ (l : ContentView). l.head) s.content_is ∙ ap opening_head is))
-  by_opening (framed digit wide f is) =
-      let place = 1 + length s.opened.first in
-      in_frame s.opened.first s.more digit (said_items s.said) wide f s.opened.whole
-      (unmarked_parts extent place 7 s.more s.said (parts_at place s.opened.place_is) (marks_by (Framed digit) is))
-      (items_by (Framed digit) is)
-  by_opening (opens_plain e no_head_there no_frame_there is) =
-      let whole : words ≡ s.more = s.opened.whole ∙ ap (λ (l : List ℕ). l ++ s.more) e in
-      let parts = unmarked_parts extent 1 0 s.more s.said
-      (parts_at 1 (s.opened.place_is ∙ ap (λ (l : List ℕ). 1 + length l) e)) (marks_by Plain is) in
-      let items : m ≡ said_items s.said = items_by Plain is ∙ append-nil (said_items s.said) in
-      in_parts (rw (sym whole) at (subst (AreParts extent 1 s.more) (sym items) parts))
+-- So a macro spells its text in the wide extent.
+pub macro_short : (digit : ℕ) (words : List ℕ) (text : List Item) → AreMacro digit words text
+    → Spells Wide words (macro_text digit text)
+macro_short digit words text m = macro_spells Wide m.word digit words m.more text refl m.is_macro m.whole m.spelled

@@ -26,13 +26,11 @@ shifted_is set shift v b h1 = grind (arith, nat_tests)
 
 -- A character has this many values.
 character_count : (set : CodeSet) (vs : List ℕ) (b : ℕ) → IsCharacter set vs b → length vs ≡ low_values set b
-character_count set vs b (plain v e w) = rw (w, basic_is set v b e) refl
-character_count set vs b (by_shift s) = rw (s.whole, shifted_is set s.shift s.second b s.means) refl
+character_count set vs b h1 = grind (arith, nat_tests, basic_is, shifted_is)
 
 -- In X12 a character is one value.
 x12_count : (vs : List ℕ) (b : ℕ) → IsCharacter X12 vs b → length vs ≡ set_values X12 (Byte b)
-x12_count vs b (plain v e w) = rw (w, basic_is X12 v b e) refl
-x12_count vs b (by_shift s) = absurd (let e = s.means in cc)
+x12_count vs b h1 = grind (arith, nat_tests, basic_is)
 
 low_test : (b : ℕ) → b < 128 → ltb b 128 ≡ true
 low_test b lt = grind (arith, nat_tests)
@@ -117,15 +115,10 @@ abbrev Small : List ℕ → Type 0
 Small vs = AllByRecursion (λ v. v < 40) vs
 
 is_shifted_small : (set : CodeSet) (vs : List ℕ) (m : Shifted) → IsShifted set vs (Some m) → Small vs
-is_shifted_small set vs m s =
-    rw s.whole (
-      basic_small set s.first (basic.Shift s.shift) s.is_shift,
-      (shifted_small set s.shift s.second m s.means, tt),
-    )
+is_shifted_small set vs m s = grind (arith, nat_tests, basic_small, shifted_small)
 
 character_small : (set : CodeSet) (vs : List ℕ) (b : ℕ) → IsCharacter set vs b → Small vs
-character_small set vs b (plain v e w) = rw w (basic_small set v (basic.Character b) e, tt)
-character_small set vs b (by_shift s) = is_shifted_small set vs (shifted.Character b) s
+character_small set vs b h1 = grind (arith, nat_tests, basic_small, is_shifted_small)
 
 small_append : (a b : List ℕ) → Small a → Small b → Small (a ++ b)
 small_append [] b h k = k

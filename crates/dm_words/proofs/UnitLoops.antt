@@ -1,10 +1,10 @@
 -- The loop that writes one unit of ASCII after the other.
 use Rattle.dm_words.proofs.Names.{◌≡◌, ℕ, suc, ◌+◌, ◌<◌, ◌≤◌, List, ◌∷◌, ◌++◌, length, get_or, drop, drop-cons, refl}
-use Rattle.dm_words.proofs.Names.{ap, sym, ◌∙◌, append_assoc, arith, length-append, Bool, true, false, ◌||◌, append-nil}
-use Rattle.dm_words.proofs.Names.{at_drop_all, Item, Byte, Fnc1, Unit, ascii, is_digit, digit_pair, has_fnc1}
-use Rattle.dm_words.proofs.Names.{unit_words, unit_items}
+use Rattle.dm_words.proofs.Names.{ap, sym, ◌∙◌, append_assoc, arith, length-append, Bool, true, false, ◌||◌}
+use Rattle.dm_words.proofs.Names.{append-nil, at_drop_all, Item, Byte, Fnc1, Unit, ascii, is_digit, digit_pair}
+use Rattle.dm_words.proofs.Names.{has_fnc1, unit_words, unit_items, nat_tests}
 use Rattle.std.proofs.Common.{ap₂}
-use Rattle.dm_words.specs.declared.ascii.Unit.TheVariants.{One, Digits, Raised, Fnc1}
+use Rattle.dm_words.specs.declared.ascii.Unit.TheVariants.{Digits, Fnc1}
 use Rattle.dm_words.specs.inner.Scan.Results.{BeginsAscii, unit_is_fnc1}
 
 -- The codewords of the items from an index on are those of the unit there and those of the items behind it.
@@ -16,17 +16,13 @@ pub record HasUnit (u : Unit) (items : List Item) (at : ℕ) : Type 0 where
 
 -- What begins the codewords from an index on is a unit there.
 pub has_unit : (u : Unit) (items : List Item) (at : ℕ) → at < length items → BeginsAscii u items at → HasUnit u items at
-has_unit (One w) items at lt b = record { words = b.0; some = omega arith; within = omega arith; fnc1 = b.1 }
-has_unit (Digits w) items at lt b = record { words = b.0; some = omega arith; within = b.2; fnc1 = b.1 }
-has_unit (Raised w) items at lt b = record { words = b.0; some = omega arith; within = omega arith; fnc1 = b.1 }
-has_unit Fnc1 items at lt b = record { words = b.0; some = omega arith; within = omega arith; fnc1 = b.1 }
+has_unit u items at h1 h2 = grind (arith, nat_tests)
 
 -- One turn of the loop.
 pub unit_turn : (u : Unit) (items : List Item) (at : ℕ) (old new : List ℕ) → HasUnit u items at → ascii items ≡ old
     ++ ascii (drop at items) → new ≡ old ++ unit_words u
     → ascii items ≡ new ++ ascii (drop (at + unit_items u) items)
-unit_turn u items at old new h so_far is = so_far ∙ ap (λ (r : List ℕ). old ++ r) h.words
-    ∙ (rw is (sym (append_assoc old (unit_words u) (ascii (drop (at + unit_items u) items)))))
+unit_turn u items at old new h so_far is = grind (arith, nat_tests, append_assoc, unit_words, ascii, unit_items)
 
 -- There is room for the unit.
 pub unit_room : (u : Unit) (items : List Item) (at : ℕ) (old : List ℕ) → HasUnit u items at → ascii items ≡ old
@@ -37,8 +33,7 @@ unit_room u items at old h so_far = grind (arith, unit_turn, unit_words, length-
 pub fnc1_turn : (u : Unit) (items : List Item) (at : ℕ) (found here : Bool) → HasUnit u items at → here ≡ unit_is_fnc1 u
     → (found || has_fnc1 (drop at items)) ≡ has_fnc1 items
     → ((found || here) || has_fnc1 (drop (at + unit_items u) items)) ≡ has_fnc1 items
-fnc1_turn u items at true here h is so_far = so_far
-fnc1_turn u items at false here h is so_far = rw is (sym h.fnc1 ∙ so_far)
+fnc1_turn u items at found here h1 h2 h3 = grind (arith, nat_tests)
 
 -- At the end the codewords of all items are there.
 pub words_end : (items : List Item) (at : ℕ) (words : List ℕ) → length items ≤ at → ascii items ≡ words

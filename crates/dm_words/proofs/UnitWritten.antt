@@ -1,10 +1,9 @@
 -- The units of ASCII that are written are units.
 use Rattle.dm_words.proofs.Names.{◌≡◌, ◌≢◌, ℕ, ◌+◌, ◌-◌, ◌<◌, List, [], ◌∷◌, ◌++◌, length, take, drop, get_or, refl}
-use Rattle.dm_words.proofs.Names.{sym, ap, subst, ◌∙◌, arith, true, Some, None, at_drop_more, All-drop}
-use Rattle.dm_words.proofs.Names.{recursion_from_All, Extent, Item, Byte, Fnc1, Codeword, codeword_of, byte_of, IsItem}
-use Rattle.dm_words.proofs.Names.{IsMessage, IsAsciiUnit, character, digits, fnc1, raised, is_digit, digit_pair}
-use Rattle.dm_words.proofs.Names.{item_words, unit_cost, is_digit_item, NoUnlatchFirst, IsPartWritten}
-use Rattle.dm_words.specs.declared.codeword.Codeword.TheVariants as codeword
+use Rattle.dm_words.proofs.Names.{sym, ap, subst, ◌∙◌, arith, true, Some, None, at_drop_more, recursion_from_All}
+use Rattle.dm_words.proofs.Names.{Extent, Item, Byte, Fnc1, Codeword, codeword_of, byte_of, IsItem, IsMessage}
+use Rattle.dm_words.proofs.Names.{IsAsciiUnit, fnc1, is_digit, digit_pair, item_words, unit_cost, is_digit_item}
+use Rattle.dm_words.proofs.Names.{NoUnlatchFirst, IsPartWritten, nat_tests}
 use Rattle.dm_words.specs.Plain as plainly
 use Rattle.dm_words.specs.Parts.{ascii}
 use Rattle.dm_words.proofs.AsciiWords.{single_spells, pair_spells}
@@ -15,10 +14,7 @@ has_meaning word meaning is e = (let none : codeword_of word ≡ None = ap codew
 
 -- A unit begins with no unlatch.
 unit_begins : (words : List ℕ) (items : List Item) → IsAsciiUnit words items → (0 < length words) × NoUnlatchFirst words
-unit_begins words items (character w b k e i) = rw e (omega arith, has_meaning w (codeword.Character b) k)
-unit_begins words items (digits w n k e i) = rw e (omega arith, has_meaning w (codeword.Digits n) k)
-unit_begins words items (fnc1 w k e i) = rw e (omega arith, has_meaning w codeword.Fnc1 k)
-unit_begins words items (raised s w b k l e i) = rw e (omega arith, has_meaning s codeword.UpperShift k)
+unit_begins words items h1 = grind (arith, nat_tests, has_meaning)
 
 -- A unit was written.
 pub unit_written : (extent : Extent) (total : ℕ) (old new words : List ℕ) (items : List Item)
@@ -48,8 +44,7 @@ pair_unit Fnc1 y hb hc = absurd cc
 
 -- The byte of a digit is a digit.
 pub digit_byte : (x : Item) (b : ℕ) → is_digit_item x ≡ true → b ≡ byte_of x → is_digit b ≡ true
-digit_byte (Byte c) b digit is = ap is_digit is ∙ digit
-digit_byte Fnc1 b digit is = absurd cc
+digit_byte x b h1 h2 = grind (arith, nat_tests, is_digit)
 
 -- An item has this many codewords by itself.
 pub length-item_words : (x : Item) → length (item_words x) ≡ unit_cost x
@@ -57,9 +52,7 @@ length-item_words x = grind arith
 
 -- An item of a message is a byte of 0 to 255, or FNC1.
 item_fits : (m : List Item) (i : ℕ) (d : Item) → i < length m → IsMessage m → IsItem (get_or m i d)
-item_fits m i d lt fit =
-    let cons : drop i m ≡ get_or m i d ∷ drop (i + 1) m = at_drop_more (λ (l : List Item). l) m i d lt in
-    (recursion_from_All IsItem (get_or m i d ∷ drop (i + 1) m) (rw cons at (All-drop IsItem i m fit))).0
+item_fits m i d lt fit = grind (arith, nat_tests, at_drop_more, recursion_from_All)
 
 -- One item, and two.
 take_one : (m : List Item) (i : ℕ) (d : Item) → i < length m → take (i + 1 - i) (drop i m) ≡ get_or m i d ∷ []

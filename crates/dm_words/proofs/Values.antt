@@ -1,5 +1,5 @@
 -- The items that the scan finds among the values of a run are those that they spell.
-use Rattle.dm_words.proofs.Names.{◌≡◌, ◌≢◌, ℕ, ◌+◌, ◌<◌, ◌≤◌, List, [], ◌∷◌, ◌++◌, length, take, drop, refl, sym, ap}
+use Rattle.dm_words.proofs.Names.{◌≡◌, ◌≢◌, ℕ, ◌+◌, ◌<◌, ◌≤◌, List, [], ◌∷◌, ◌++◌, length, take, drop, refl, sym}
 use Rattle.dm_words.proofs.Names.{subst, arith, Option, Some, None, inl, inr, ◌⊎◌, AllByRecursion, nat_tests}
 use Rattle.dm_words.proofs.Names.{recursion_from_All, take-append-drop, Item, Byte, CodeSet, C40, Text, X12, Shift}
 use Rattle.dm_words.proofs.Names.{Basic, Shifted, basic_of, shifted_of, IsShifted, IsUpperShift, IsCharacter, by_shift}
@@ -51,8 +51,7 @@ Judged set values (Stops kind) = AreSmall values → IsRestOf set values kind
 -- A shift and the value after it have this meaning.
 shift_means : (set : CodeSet) (s v : ℕ) (shift : Shift) (meaning : Option Shifted) → basic_of set s
     ≡ Some (basic.Shift shift) → shifted_of set shift v ≡ meaning → IsShifted set (s ∷ v ∷ []) meaning
-shift_means set s v shift meaning es ev =
-    record { first = s; second = v; shift = shift; is_shift = es; means = ev; whole = refl }
+shift_means set s v shift meaning es ev = grind (arith, nat_tests)
 
 -- What is found behind an Upper Shift and a shift is right.
 judged_raised_shifted : (set : CodeSet) (s v t w : ℕ) (shift : Shift) (more : List ℕ) (k : Option Shifted)
@@ -137,8 +136,7 @@ judged_spelling set s (v ∷ more) (Some (basic.Shift shift)) es =
 
 -- Whatever is found is right.
 judged : (set : CodeSet) (place : ℕ) (values : List ℕ) → Judged set values (first_spelling set place values)
-judged set place [] = λ fit. nothing refl
-judged set place (s ∷ more) = judged_spelling set s more (basic_of set s) refl
+judged set place values = grind (arith, nat_tests, nothing, judged_spelling, basic_of)
 
 -- A spelling that is found is one.
 pub item_sound : (set : CodeSet) → IsSound (first_spelling set) (ItemRight set) Anything
@@ -159,30 +157,18 @@ rest_sound set place values kind fit e =
 -- A character behind an Upper Shift is found.
 raised_character : (set : CodeSet) (values after : List ℕ) (b : ℕ) → IsCharacter set values b
     → (first_raised set (values ++ after) ≡ Takes (2 + length values) (Byte (b + 128))) × (0 < length values)
-raised_character set values after b (plain v e w) = rw w ((rw e refl), omega arith)
-raised_character set values after b (by_shift s) = rw s.whole ((rw (s.is_shift, s.means) refl), omega arith)
+raised_character set values after b h1 = grind (arith, nat_tests)
 
 -- A character that is a prefix is found.
 one_character : (set : CodeSet) (place : ℕ) (values after : List ℕ) (b : ℕ) → IsCharacter set values b
     → (first_spelling set place (values ++ after) ≡ Takes (length values) (Byte b)) × (0 < length values)
-one_character set place values after b (plain v e w) = rw w ((rw e refl), omega arith)
-one_character set place values after b (by_shift s) = rw s.whole ((rw (s.is_shift, s.means) refl), omega arith)
+one_character set place values after b h1 = grind (arith, nat_tests)
 
 -- A spelling that is a prefix is found.
 pub item_complete : (set : CodeSet) → IsComplete (first_spelling set) (ItemRight set)
 item_complete set place values after item (character b c i) = rw i (one_character set place values after b c)
 item_complete set place values after item (fnc1 s i) = rw (s.whole, i) ((rw (s.is_shift, s.means) refl), omega arith)
-item_complete set place values after item (raised upper more b u c w i) =
-    let r = raised_character set more after b c in
-    rw (w, u.whole, i) (
-      (rw (u.is_shift, u.means, r.0) (ap (λ (n : ℕ). Takes n (Byte (b + 128))) (omega arith))),
-      omega arith,
-    )
-
--- An Upper Shift that waits is found.
-waiting_complete : (set : CodeSet) (place : ℕ) (values upper filler : List ℕ) → IsUpperShift set upper
-    → IsFiller set filler → values ≡ upper ++ filler → first_spelling set place values ≡ Stops left.Waiting
-waiting_complete set place values upper filler h1 h2 h3 = grind (arith, nat_tests, lone_shift)
+item_complete set place values after item (raised upper more b u c w i) = grind (arith, nat_tests, raised_character)
 
 -- An Upper Shift before something that is not a character is found.
 wrong_complete : (set : CodeSet) (place : ℕ) (values upper pair more : List ℕ) → IsUpperShift set upper
@@ -194,7 +180,7 @@ wrong_complete set place values upper pair more h1 h2 h3 = grind (arith, nat_tes
 pub rest_complete : (set : CodeSet) (place : ℕ) (values : List ℕ) (kind : Rest) → IsRestOf set values kind
     → first_spelling set place values ≡ Stops kind
 rest_complete set place values kind h1 =
-    grind (arith, nat_tests, lone_shift, waiting_complete, wrong_complete, at_once, after_upper_shift)
+    grind (arith, nat_tests, lone_shift, wrong_complete, at_once, after_upper_shift)
 
 -- ---- what can stand behind the last whole spelling has no whole spelling as a prefix
 
@@ -215,10 +201,7 @@ rest_of set values (left.Meaningless index) r = meaningless index r
 -- No whole spelling is a prefix of a rest.
 pub rest_begins_no_spelling : (set : CodeSet) (values : List ℕ) → IsRest set values → BeginsNoSpelling set values
 rest_begins_no_spelling set values r prefix more item e s =
-    let k = kind_of set values r in
-    let stops = rest_complete set 0 values k.0 k.1 in
-    let takes = (item_complete set 0 prefix more item s).0 in
-    cc
+    grind (arith, nat_tests, kind_of, rest_complete, item_complete)
 
 -- Whatever is found first, values with no whole spelling there are a rest.
 no_spelling_by : (set : CodeSet) (values : List ℕ) (s : Step Item Rest) → first_spelling set 0 values ≡ s

@@ -1,8 +1,8 @@
 -- A walk finds the pieces that are joined, and no others.
-use Rattle.dm_words.proofs.Names.{◌≡◌, ℕ, zero, suc, ◌+◌, ◌<◌, ◌≤◌, List, [], ◌∷◌, ◌++◌, length, take, drop, refl, sym}
-use Rattle.dm_words.proofs.Names.{ap, subst, append_assoc, arith, add-zero, length-append, drop_at, take-append-drop}
-use Rattle.dm_words.proofs.Names.{length-take, length-drop, Piece, spelled, whats, AreJoined, Step, Takes, Stops}
-use Rattle.dm_words.proofs.Names.{Walked, and_before}
+use Rattle.dm_words.proofs.Names.{◌≡◌, ℕ, zero, suc, ◌+◌, ◌<◌, ◌≤◌, List, [], ◌∷◌, ◌++◌, length, take, drop, refl}
+use Rattle.dm_words.proofs.Names.{sym, ap, subst, append_assoc, arith, add-zero, length-append, drop_at}
+use Rattle.dm_words.proofs.Names.{take-append-drop, length-take, length-drop, Piece, spelled, whats, AreJoined, Step}
+use Rattle.dm_words.proofs.Names.{Takes, Stops, Walked, and_before, nat_tests}
 use Rattle.dm_words.specs.inner.Scan.Walk.{by_step, walk, walk_all}
 
 module _ {A S : Type 0} where
@@ -92,9 +92,7 @@ module _ {A S : Type 0} where
         ≡ record { taken = whats pieces; place = place + length (spelled pieces); why = s }
     unfolding walk
     walk-joined complete zero place pieces after s joined stop lt = absurd (omega arith)
-    walk-joined complete (suc fuel) place [] after s joined stop lt =
-        let here : step place after ≡ Stops s = rw add-zero at stop in
-        rw (here, add-zero) refl
+    walk-joined complete (suc fuel) place [] after s joined stop lt = grind (arith, nat_tests, add-zero)
     walk-joined complete (suc fuel) place (p ∷ ps) after s joined stop lt =
         let c = complete place p.words (spelled ps ++ after) p.what joined.0 in
         let grouped : (p.words ++ spelled ps) ++ after ≡ p.words

@@ -16,6 +16,7 @@ use Rattle.dm_words.proofs.Openings as openings
 use Rattle.dm_words.proofs.Openings.{OpeningJudged}
 use Rattle.dm_words.proofs.ContentParts.{content_part_sound, content_part_complete, content_fault_sound}
 use Rattle.dm_words.proofs.ContentParts.{content_fault_complete, content_end_sound, content_end_complete}
+use Rattle.dm_words.proofs.Names.{nat_tests}
 
 -- ---- parts from a place on
 
@@ -26,9 +27,7 @@ walked extent place words = walk (first_content_part extent) None (suc (length w
 -- The walk takes parts, one after the other.
 the_walk : (extent : Extent) (place : ℕ) (words : List ℕ) → IsBytes words
     → Walks (first_content_part extent) (IsContentPart extent) IsBytes place words (walked extent place words)
-the_walk extent place words fit =
-    walks (first_content_part extent) (IsContentPart extent) IsBytes None (content_part_sound extent)
-    (suc (length words)) place words (omega arith) fit
+the_walk extent place words fit = grind (arith, nat_tests, walks, first_content_part, content_part_sound)
 
 -- Behind what was read before, a content is this with what parts say, and a fault is there.
 record Tells (extent : Extent) (so_far : ContentView) (place : ℕ) (words : List ℕ)
@@ -77,8 +76,7 @@ walk_tells extent so_far place words w (Some g) e v = record {
 read_tells : (extent : Extent) (so_far : ContentView) (place : ℕ) (words : List ℕ) → IsBytes words
     → Tells extent so_far place words (content_on extent so_far place words)
 unfolding content_on
-read_tells extent so_far place words fit =
-    walk_tells extent so_far _ _ _ (walked extent place words).why refl (the_walk extent place words fit)
+read_tells extent so_far place words fit = grind (arith, nat_tests, walk_tells, walked, the_walk)
 
 -- What is said from a place on is read.
 pub parts_read : (extent : Extent) (so_far : ContentView) (place : ℕ) (words : List ℕ) (said : List Said)
@@ -117,8 +115,7 @@ closing_content closing (Err f) l e = absurd cc
 -- A fault before what closes a content is found before it.
 closing_fault : (closing : Opening) (r : Result ContentView ContentFault) (f : ContentFault) → and_closing closing r
     ≡ Err f → r ≡ Err f
-closing_fault closing (Ok k) f e = absurd cc
-closing_fault closing (Err g) f e = (let same : g ≡ f = cc in ap Err same)
+closing_fault closing r f h1 = grind (arith, nat_tests)
 
 -- A right reading: a content that is read is said, and a fault that is found is one with which the codewords are
 -- refused.

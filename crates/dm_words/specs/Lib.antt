@@ -20,6 +20,7 @@ pub mod Laws
 pub mod Designators
 pub mod Heads
 pub mod Contents
+pub mod Equality
 pub mod Designations
 pub mod ContentResults
 pub mod ContentForm
@@ -28,5 +29,4 @@ pub mod Spells
 pub mod Symbology
 pub mod Plain
 pub mod Smallest
-pub mod SmallestContents
 pub mod inner

@@ -6,6 +6,7 @@ pub mod Written
 pub mod Ways
 pub mod Fnc1
 pub mod Signs
+pub mod Held
 pub mod ContentScan
 pub mod ContentsAt
 pub mod MarkedForms

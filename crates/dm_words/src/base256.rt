@@ -10,9 +10,9 @@ ghost use Rattle.dm_words.specs.inner.Scan.Results.{HasRoomAt, IsPartTaken};
 
 use crate::codeword::{BASE256_LATCH, RANDOM_FACTOR};
 use crate::fault::WordFault;
+use crate::held::add;
 use crate::item::{Item, byte};
 use crate::limits::LARGEST_ROOM;
-use crate::message::MessageIn;
 use arrayvec::ArrayVec;
 use dm_layout::symbols::MOST_DATA;
 
@@ -37,35 +37,33 @@ fn plain_value(words: &[u8], index: usize) -> u8
 }
 
 /// Adds the bytes of `count` codewords from an index on to the message.
-fn push_bytes<const ROOM: usize>(
-    words: &[u8],
-    start: usize,
-    count: usize,
-    message: &mut MessageIn<ROOM>,
-)
+fn push_bytes(words: &[u8], start: usize, count: usize, items: &mut [Item], held: &mut usize)
     requires in_range { start + count ≤ length words.now }
     requires short { length words.now ≤ MOST_DATA }
-    requires room { length message.old + count ≤ ROOM }
-    ensures { message.new
-        ≡ message.old ++ byte_items (take count (plain (start + 1) (drop start words.now))) }
+    requires room { held.old + count ≤ length items.old }
+    ensures added { take held.new items.new
+        ≡ take held.old items.old ++ byte_items (take count (plain (start + 1) (drop start words.now))) }
+    ensures within { held.new ≤ length items.new }
 {
     for i in 0..count {
-        message.add(Item::Byte(plain_value(words, start + i)));
+        add(Item::Byte(plain_value(words, start + i)), items, held);
     }
 }
 
 /// Takes the segment whose latch stands at an index: adds its bytes to the message, and gives the number of its
 /// codewords.
-pub(crate) fn segment_part<const ROOM: usize>(
+pub(crate) fn segment_part(
     words: &[u8],
     at: usize,
-    message: &mut MessageIn<ROOM>,
+    items: &mut [Item],
+    held: &mut usize,
 ) -> Result<usize, WordFault>
     requires in_range { at < length words.now }
     requires short { length words.now ≤ MOST_DATA }
-    requires room { HasRoomAt ROOM words.now at message.old }
-    ensures { IsPartTaken result message.old message.new
+    requires room { HasRoomAt (length items.old) words.now at held.old }
+    ensures taken { IsPartTaken result (take held.old items.old) (take held.new items.new)
         (segment_behind (at + 1) (plain (at + 2) (drop (at + 1) words.now))) }
+    ensures within { held.new ≤ length items.new }
 {
     let fault = WordFault::Length(at as u16 + 1);
     let left = words.len() - at - 1;
@@ -74,14 +72,14 @@ pub(crate) fn segment_part<const ROOM: usize>(
     }
     let first = plain_value(words, at + 1) as usize;
     if first == 0 {
-        push_bytes(words, at + 2, left - 1, message);
+        push_bytes(words, at + 2, left - 1, items, held);
         return Ok(left + 1);
     }
     if first <= MOST_SHORT {
         if left - 1 < first {
             return Err(fault);
         }
-        push_bytes(words, at + 2, first, message);
+        push_bytes(words, at + 2, first, items, held);
         return Ok(first + 2);
     }
     if left == 1 {
@@ -92,7 +90,7 @@ pub(crate) fn segment_part<const ROOM: usize>(
     if second > MOST_SHORT || left - 2 < count {
         return Err(fault);
     }
-    push_bytes(words, at + 3, count, message);
+    push_bytes(words, at + 3, count, items, held);
     Ok(count + 3)
 }
 

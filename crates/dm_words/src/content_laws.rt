@@ -1,7 +1,6 @@
 //! Laws of contents. Each function has an empty body: its contract is the law.
 
 ghost use Rattle.std.specs.Prelude.{◌≡◌, ℕ, ◌≤◌, ◌↔◌, List, length, map};
-ghost use Rattle.dm_words.specs.Messages.{most_data};
 ghost use Rattle.dm_words.specs.declared.extent.Extent.{Extent};
 ghost use Rattle.dm_words.specs.declared.profile.Profile.{Profile};
 ghost use Rattle.dm_words.specs.Laws.{AreCodewords, HasOneResult};
@@ -14,7 +13,7 @@ ghost use Rattle.dm_words.specs.Plain.{IsPlainWithPads};
 ghost use Rattle.dm_words.specs.Contents.{ContentView, IsContent, Says};
 ghost use Rattle.dm_words.specs.ContentForm.{content_form};
 ghost use Rattle.dm_words.specs.ContentExtents.{as_content};
-ghost use Rattle.dm_words.specs.SmallestContents.{IsSmallestContentFor, NoSizeSays, IsPlainestContent};
+ghost use Rattle.dm_words.specs.Smallest.{IsPlainestContent, IsSmaller, IsSmallestContentFor, IsTaken, NoSizeSays};
 ghost use Rattle.dm_layout.specs.declared.symbols.size.SizeChoice.{SizeChoice};
 ghost use Rattle.dm_layout.specs.symbols.Sizes.{SizeEntry};
 ghost use Rattle.dm_words.specs.ContentResults.{HasOneContentResult};
@@ -76,7 +75,8 @@ pub fn content_form_says()
 
 /// How far the smallest codewords of a content in an extent and a choice of sizes are determined, as
 /// [`crate::smallest_words_to()`] gives them: whether there are any, and their size; all of them, where there is
-/// room for the ASCII form; and whether they say the content in the usual extent.
+/// room for the ASCII form; and whether they say the content in the usual extent. The wide extent never needs a larger
+/// size than the usual one, and neither needs a larger one than a normal form.
 pub fn smallest_content_words_are_alike()
     ensures size { (extent : Extent) (choice : SizeChoice) (size other_size : SizeEntry)
         (l : ContentView) (words other : List ℕ)
@@ -91,4 +91,15 @@ pub fn smallest_content_words_are_alike()
     ensures usual { (l : ContentView) (words other : List ℕ)
         → IsPlainestContent words l → IsPlainestContent other l → length words ≡ length other
         → Says Extent.Usual words l ↔ Says Extent.Usual other l }
+    ensures wide { (choice : SizeChoice) (size other_size : SizeEntry)
+        (l : ContentView) (words other : List ℕ)
+        → IsSmallestContentFor Extent.Usual choice size words l
+        → IsSmallestContentFor Extent.Wide choice other_size other l
+        → IsSmaller size other_size → ⊥ }
+    ensures normal { (extent : Extent) (profile : Profile) (choice : SizeChoice)
+        (size other_size : SizeEntry) (l : ContentView) (words : List ℕ)
+        → IsContent l → IsSmallestContentFor extent choice size words l
+        → IsTaken choice other_size
+        → length (content_form profile l) ≤ other_size.data_count
+        → IsSmaller other_size size → ⊥ }
 {}

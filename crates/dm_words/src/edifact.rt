@@ -1,13 +1,13 @@
 //! EDIFACT encodation (ISO/IEC 16022, EDIFACT encodation): four values of 0 to 63 in each group of three codewords,
 //! from a latch on to the unlatch or to the last codewords of the symbol.
 
-ghost use Rattle.std.specs.Prelude.{◌≡◌, ℕ, ◌+◌, ◌≤◌, ◌<◌, ◌*◌, ◌∷◌, [], length, drop, Ok};
+ghost use Rattle.std.specs.Prelude.{◌≡◌, ℕ, ◌+◌, ◌≤◌, ◌<◌, ◌*◌, ◌∷◌, [], length, take, drop, Ok};
 ghost use Rattle.dm_words.specs.Edifact.{edifact_byte};
 ghost use Rattle.dm_words.specs.inner.Scan.Prefixes.{group_values, edifact_run, edifact_items};
 ghost use Rattle.dm_words.specs.inner.Scan.Results.{HasRoomAt, IsGroupTaken, IsEdifactTaken};
 
+use crate::held::add;
 use crate::item::Item;
-use crate::message::MessageIn;
 use dm_layout::symbols::MOST_DATA;
 
 /// The value that ends a run.
@@ -27,54 +27,54 @@ fn character(value: u8) -> Item
 
 /// Takes a group of three codewords: adds the characters of its values to the message, up to the unlatch. Where there
 /// is one, the run ends there, and this gives the number of codewords of the group that belong to the run.
-fn group_part<const ROOM: usize>(
-    high: u8,
-    middle: u8,
-    low: u8,
-    message: &mut MessageIn<ROOM>,
-) -> Option<usize>
-    requires { length message.old + 4 ≤ ROOM }
-    ensures { IsGroupTaken result message.old message.new (group_values high middle low) }
+fn group_part(high: u8, middle: u8, low: u8, items: &mut [Item], held: &mut usize) -> Option<usize>
+    requires { held.old + 4 ≤ length items.old }
+    ensures taken { IsGroupTaken result (take held.old items.old) (take held.new items.new)
+        (group_values high middle low) }
+    ensures within { held.new ≤ length items.new }
 {
     let first = high / 4;
     if first == UNLATCH_VALUE {
         return Some(1);
     }
-    message.add(character(first));
+    add(character(first), items, held);
     let second = high % 4 * 16 + middle / 16;
     if second == UNLATCH_VALUE {
         return Some(2);
     }
-    message.add(character(second));
+    add(character(second), items, held);
     let third = middle % 16 * 4 + low / 64;
     if third == UNLATCH_VALUE {
         return Some(3);
     }
-    message.add(character(third));
+    add(character(third), items, held);
     let fourth = low % 64;
     if fourth == UNLATCH_VALUE {
         return Some(3);
     }
-    message.add(character(fourth));
+    add(character(fourth), items, held);
     None
 }
 
 /// Takes the run whose latch stands at an index: adds its characters to the message, and gives the number of its
 /// codewords.
-pub(crate) fn edifact_part<const ROOM: usize>(
-    words: &[u8],
-    at: usize,
-    message: &mut MessageIn<ROOM>,
-) -> usize
+pub(crate) fn edifact_part(words: &[u8], at: usize, items: &mut [Item], held: &mut usize) -> usize
     requires in_range { at < length words.now }
     requires short { length words.now ≤ MOST_DATA }
-    requires room { HasRoomAt ROOM words.now at message.old }
-    ensures { IsEdifactTaken result message.old message.new
+    requires room { HasRoomAt (length items.old) words.now at held.old }
+    ensures taken { IsEdifactTaken result (take held.old items.old) (take held.new items.new)
         (edifact_run (drop (at + 1) words.now)) }
+    ensures within { held.new ≤ length items.new }
 {
     let mut next = at + 1;
     while words.len() - next > 2 {
-        if let Some(count) = group_part(words[next], words[next + 1], words[next + 2], message) {
+        if let Some(count) = group_part(
+            words[next],
+            words[next + 1],
+            words[next + 2],
+            items,
+            held,
+        ) {
             return next + count - at;
         }
         next += 3;

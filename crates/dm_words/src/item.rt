@@ -3,9 +3,9 @@
 ghost use Rattle.std.specs.Prelude.{◌≡◌};
 ghost use Rattle.dm_words.specs.Messages.{byte_of};
 
-/// An item of a message: a byte, or the function character FNC1. No item is interpreted. There is a default since
-/// `ArrayVec` asks for one; which item it is doesn't matter. It stands first, so that it is all zeros: a list of them
-/// is then made where it is to stand, by clearing that memory, and isn't copied there.
+/// An item of a message: a byte, or the function character FNC1. No item is interpreted. FNC1 is the default, and
+/// stands first, so that it is all zeros: a list of them is then made where it is to stand, by clearing that memory, so
+/// it isn't copied there.
 #[derive(Clone, Copy, Debug, Default, PartialEq, Eq)]
 pub enum Item {
     /// FNC1 (ISO/IEC 16022, function characters).

@@ -2,8 +2,6 @@
 
 ghost use Rattle.std.specs.Prelude.{◌≡◌, ℕ, ◌+◌, ◌*◌, ◌≤◌, ◌↔◌, List, length};
 ghost use Rattle.dm_layout.specs.Sizes.{most_grid_data};
-ghost use Rattle.dm_layout.specs.declared.symbols.size.SizeChoice.{SizeChoice};
-ghost use Rattle.dm_layout.specs.symbols.Sizes.{SizeEntry};
 ghost use Rattle.dm_words.specs.declared.extent.Extent.{Extent};
 ghost use Rattle.dm_words.specs.declared.item.Item.{Item};
 ghost use Rattle.dm_words.specs.declared.c40.set.CodeSet.{CodeSet};
@@ -18,7 +16,6 @@ ghost use Rattle.dm_words.specs.NormalForm.{normal_form, one_segment, shorter};
 ghost use Rattle.dm_words.specs.Pads.{padded};
 ghost use Rattle.dm_words.specs.Values.{IsRest};
 ghost use Rattle.dm_words.specs.Macros.{macro_text};
-ghost use Rattle.dm_words.specs.Smallest.{IsPlainest, IsSmaller, IsSmallestFor, IsTaken};
 ghost use Rattle.dm_words.specs.Spells.{Spells};
 ghost use Rattle.dm_words.specs.Laws.{AreCodewords, AreRunValues, BeginsNoSpelling};
 ghost use Rattle.dm_words.specs.Laws.{AreMacro, SomeSpell};
@@ -83,33 +80,6 @@ pub fn normal_form_spells()
     ensures shorter { (m : List Item) → length (shorter m) ≤ length (ascii m) }
     ensures segment { (bytes : List ℕ)
         → length (shorter (byte_items bytes)) ≤ length (one_segment bytes) }
-{}
-
-/// How far the smallest codewords of a message in an extent and a choice of sizes are determined, as
-/// [`crate::smallest_words_to()`] gives them: their size; all of them, where there is room for the ASCII form; and
-/// whether the usual extent reads them. The wide extent never needs a larger size than the usual one, and neither needs
-/// a larger one than a normal form.
-pub fn smallest_words_are_alike()
-    ensures size { (extent : Extent) (choice : SizeChoice) (size other_size : SizeEntry)
-        (m : List Item) (words other : List ℕ)
-        → IsSmallestFor extent choice size words m
-        → IsSmallestFor extent choice other_size other m → size ≡ other_size }
-    ensures ascii { (m : List Item) (words other : List ℕ)
-        → IsPlainest words m → IsPlainest other m → length words ≡ length other
-        → length (ascii m) ≤ length words → words ≡ other }
-    ensures usual { (m : List Item) (words other : List ℕ)
-        → IsPlainest words m → IsPlainest other m → length words ≡ length other
-        → Spells Extent.Usual words m ↔ Spells Extent.Usual other m }
-    ensures wide { (choice : SizeChoice) (size other_size : SizeEntry)
-        (m : List Item) (words other : List ℕ)
-        → IsSmallestFor Extent.Usual choice size words m
-        → IsSmallestFor Extent.Wide choice other_size other m
-        → IsSmaller size other_size → ⊥ }
-    ensures normal { (extent : Extent) (profile : Profile) (choice : SizeChoice)
-        (size other_size : SizeEntry) (m : List Item) (words : List ℕ)
-        → IsMessage m → IsSmallestFor extent choice size words m → IsTaken choice other_size
-        → length (normal_form profile m) ≤ other_size.data_count
-        → IsSmaller other_size size → ⊥ }
 {}
 
 /// What can follow the last whole spelling of a run is exactly what has no whole spelling as a prefix.

@@ -35,6 +35,7 @@ mod contents;
 mod edifact;
 mod extent;
 mod fault;
+mod held;
 mod item;
 pub mod laws;
 mod limits;

@@ -1,6 +1,6 @@
 //! Macros (ISO/IEC 16022, 05 and 06 macro characters): one codeword for the header and the trailer of a message.
 
-ghost use Rattle.std.specs.Prelude.{◌≡◌, ◌+◌, ◌≤◌, ◌++◌, List, length, IsTrue, IfSome, IfNone};
+ghost use Rattle.std.specs.Prelude.{◌≡◌, ◌+◌, ◌≤◌, ◌++◌, List, length, take, IsTrue, IfSome, IfNone};
 ghost use Rattle.dm_words.specs.declared.item.Item.{Item};
 ghost use Rattle.dm_words.specs.Messages.{byte_items};
 ghost use Rattle.dm_words.specs.Macros.{macro_header, macro_trailer, macro_text, BeginsFnc1};
@@ -10,8 +10,8 @@ ghost use Rattle.dm_words.specs.inner.Scan.Prefixes.{digit_by};
 
 use crate::codeword::{Codeword, MACRO_05, MACRO_06, meaning};
 use crate::extent::Extent;
+use crate::held::add;
 use crate::item::Item;
-use crate::message::MessageIn;
 
 /// The record separator.
 const RS: u8 = 30;
@@ -33,26 +33,28 @@ pub(crate) fn digit_of(codeword: u8) -> Option<u8>
 }
 
 /// Adds the header of the macro of this digit to the message.
-pub(crate) fn add_header<const ROOM: usize>(digit: u8, message: &mut MessageIn<ROOM>)
-    requires { length message.old + 7 ≤ ROOM }
-    ensures { message.new ≡ message.old ++ macro_header digit }
+pub(crate) fn add_header(digit: u8, items: &mut [Item], held: &mut usize)
+    requires { held.old + 7 ≤ length items.old }
+    ensures added { take held.new items.new ≡ take held.old items.old ++ macro_header digit }
+    ensures within { held.new ≤ length items.new }
 {
-    message.add(Item::Byte(b'['));
-    message.add(Item::Byte(b')'));
-    message.add(Item::Byte(b'>'));
-    message.add(Item::Byte(RS));
-    message.add(Item::Byte(b'0'));
-    message.add(Item::Byte(digit));
-    message.add(Item::Byte(GS));
+    add(Item::Byte(b'['), items, held);
+    add(Item::Byte(b')'), items, held);
+    add(Item::Byte(b'>'), items, held);
+    add(Item::Byte(RS), items, held);
+    add(Item::Byte(b'0'), items, held);
+    add(Item::Byte(digit), items, held);
+    add(Item::Byte(GS), items, held);
 }
 
 /// Adds the trailer of a macro to the message.
-pub(crate) fn add_trailer<const ROOM: usize>(message: &mut MessageIn<ROOM>)
-    requires { length message.old + 2 ≤ ROOM }
-    ensures { message.new ≡ message.old ++ macro_trailer }
+pub(crate) fn add_trailer(items: &mut [Item], held: &mut usize)
+    requires { held.old + 2 ≤ length items.old }
+    ensures added { take held.new items.new ≡ take held.old items.old ++ macro_trailer }
+    ensures within { held.new ≤ length items.new }
 {
-    message.add(Item::Byte(RS));
-    message.add(Item::Byte(EOT));
+    add(Item::Byte(RS), items, held);
+    add(Item::Byte(EOT), items, held);
 }
 
 /// How many items the header of a macro has.

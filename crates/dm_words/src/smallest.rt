@@ -10,12 +10,10 @@ ghost use Rattle.dm_words.specs.Contents.{AreMarks};
 ghost use Rattle.dm_words.specs.Messages.{IsMessage};
 ghost use Rattle.dm_words.specs.Outcomes.{outcome};
 ghost use Rattle.dm_words.specs.Pads.{padded};
-ghost use Rattle.dm_words.specs.Plain.{IsPlainForm};
-ghost use Rattle.dm_words.specs.Smallest.{IsPlainest, IsSmallestResult, SpellsThenPads};
-ghost use Rattle.dm_words.specs.SmallestContents.{IsSmallestContentResult};
+ghost use Rattle.dm_words.specs.Smallest.{IsPlainestContent, IsSmallestContentResult, SaysThenPads};
 ghost use Rattle.dm_words.specs.inner.Costs.{at_end, parts_cost, IsRightPlan};
 ghost use Rattle.dm_words.specs.inner.ContentCosts.{view_of};
-ghost use Rattle.dm_words.specs.inner.Ways.{IsLeastCost, IsMacroOf, IsWay, inner_text, text_of};
+ghost use Rattle.dm_words.specs.inner.Ways.{AreWritten, IsLeastCost, IsMacroOf, IsWay, inner_text, text_of};
 
 mod contents;
 mod edifact;
@@ -83,8 +81,6 @@ pub fn smallest_words_to(
     requires in_order { AreMarks 0 (length items.now) marks.now }
     ensures smallest { IsSmallestContentResult extent choice
         (record { head = head; items = items.now; marks = marks.now }) result words.new.items }
-    ensures message { head ≡ None → marks.now ≡ []
-        → IsSmallestResult extent choice items.now result words.new.items }
     ensures message_items { head ≡ None → marks.now ≡ [] → IsMessage items.now }
     ensures items { OnOk result (IsMessage items.now) }
     ensures same { OnErr result (words.new.items ≡ words.old.items) }
@@ -119,8 +115,6 @@ fn smallest_in<const STEPS: usize, const MARKS: usize>(
     requires room { length marks.now ≤ MARKS }
     requires most_marks { MARKS ≤ LARGEST_MARKS }
     ensures smallest { IsSmallestContentResult extent choice (view_of head items.now marks.now) result words.new.items }
-    ensures message { head ≡ None → marks.now ≡ []
-        → IsSmallestResult extent choice items.now result words.new.items }
     ensures message_items { head ≡ None → marks.now ≡ [] → IsMessage items.now }
     ensures items { OnOk result (IsMessage items.now) }
     ensures same { OnErr result (words.new.items ≡ words.old.items) }
@@ -154,8 +148,7 @@ fn smallest_items_to(
 ) -> Result<SymbolSize, TooLong>
     requires few { length items.now ≤ LARGEST_ROOM }
     requires steps { length items.now < length plan.old }
-    ensures smallest { IsSmallestResult extent choice items.now result words.new.items }
-    ensures content { IsSmallestContentResult extent choice (as_content items.now) result words.new.items }
+    ensures smallest { IsSmallestContentResult extent choice (as_content items.now) result words.new.items }
     ensures message { IsMessage items.now }
     ensures same { OnErr result (words.new.items ≡ words.old.items) }
 {
@@ -251,12 +244,12 @@ fn inner(items: &[Item]) -> &[Item]
 
 /// Writes the items, without pads, for a symbol of `count` data codewords: in ASCII where there is room for that;
 /// else as the usual extent has it, where there is room for that; else in this way, by its plan.
-fn write_plainest<const N: usize>(
+fn write_plainest(
     extent: Extent,
     items: &[Item],
     found: Found,
     plan: &mut [StepBits],
-    words: &mut ArrayVec<u8, N>,
+    words: &mut ArrayVec<u8, MOST_DATA>,
     count: u16,
 )
     requires few { length items.now ≤ LARGEST_ROOM }
@@ -266,12 +259,10 @@ fn write_plainest<const N: usize>(
     requires steps { length items.now < length plan.old }
     requires plan { IsRightPlan (at_end extent) (text_of found.way.macro_word items.now) plan.old }
     requires room { found.way.cost ≤ count }
-    requires count { count ≤ N }
-    requires most { N ≤ MOST_DATA }
-    ensures spells { SpellsThenPads extent (padded words.new.items count) items.now }
+    requires count { count ≤ MOST_DATA }
+    ensures written { AreWritten extent (padded words.new.items count) (as_content items.now) }
     ensures fits { length words.new.items ≤ count }
-    ensures plainest { IsPlainest (padded words.new.items count) items.now }
-    ensures form { IsPlainForm (padded words.new.items count) (as_content items.now) }
+    ensures plainest { IsPlainestContent (padded words.new.items count) (as_content items.now) }
 {
     if found.ascii <= count {
         let _form = write_ascii(items, words);
@@ -285,26 +276,23 @@ fn write_plainest<const N: usize>(
 
 /// Writes the items, without pads, as the usual extent has it, in place of the words that stand there, where a symbol
 /// of `count` data codewords has room for that. The plan is made anew.
-fn write_usual_if_fits<const N: usize>(
+fn write_usual_if_fits(
     extent: Extent,
     items: &[Item],
     plan: &mut [StepBits],
-    words: &mut ArrayVec<u8, N>,
+    words: &mut ArrayVec<u8, MOST_DATA>,
     count: u16,
 )
     requires few { length items.now ≤ LARGEST_ROOM }
     requires steps { length items.now < length plan.old }
     requires message { IsMessage items.now }
-    requires count { count ≤ N }
-    requires most { N ≤ MOST_DATA }
+    requires count { count ≤ MOST_DATA }
     requires no_ascii { count < length (ascii items.now) }
-    requires spells { SpellsThenPads extent (padded words.old.items count) items.now }
+    requires written { AreWritten extent (padded words.old.items count) (as_content items.now) }
     requires fits { length words.old.items ≤ count }
-    requires form { IsPlainForm (padded words.old.items count) (as_content items.now) }
-    ensures spells { SpellsThenPads extent (padded words.new.items count) items.now }
+    ensures written { AreWritten extent (padded words.new.items count) (as_content items.now) }
     ensures fits { length words.new.items ≤ count }
-    ensures plainest { IsPlainest (padded words.new.items count) items.now }
-    ensures form { IsPlainForm (padded words.new.items count) (as_content items.now) }
+    ensures plainest { IsPlainestContent (padded words.new.items count) (as_content items.now) }
 {
     // In the usual extent a codeword spells at most two items.
     if 2 * usize::from(count) < items.len() {
@@ -317,12 +305,12 @@ fn write_usual_if_fits<const N: usize>(
 
 /// Writes the items in this way, by its plan, without pads, for a symbol of `count` data codewords, and says whether
 /// the usual extent surely reads them.
-fn write_way<const N: usize>(
+fn write_way(
     extent: Extent,
     items: &[Item],
     way: Way,
     plan: &[StepBits],
-    words: &mut ArrayVec<u8, N>,
+    words: &mut ArrayVec<u8, MOST_DATA>,
     count: u16,
 ) -> bool
     requires few { length items.now ≤ LARGEST_ROOM }
@@ -331,12 +319,10 @@ fn write_way<const N: usize>(
     requires steps { length items.now < length plan.now }
     requires plan { IsRightPlan (at_end extent) (text_of way.macro_word items.now) plan.now }
     requires room { way.cost ≤ count }
-    requires count { count ≤ N }
-    requires most { N ≤ MOST_DATA }
-    ensures spells { SpellsThenPads extent (padded words.new.items count) items.now }
-    ensures usual { IsTrue result → SpellsThenPads Usual (padded words.new.items count) items.now }
+    requires count { count ≤ MOST_DATA }
+    ensures written { AreWritten extent (padded words.new.items count) (as_content items.now) }
+    ensures usual { IsTrue result → SaysThenPads Usual (padded words.new.items count) (as_content items.now) }
     ensures fits { length words.new.items ≤ count }
-    ensures form { IsPlainForm (padded words.new.items count) (as_content items.now) }
 {
     match way.macro_word {
         None => write_plain(extent, items, plan, words, count),
@@ -357,11 +343,11 @@ fn write_way<const N: usize>(
 
 /// Writes the items by no macro, by their plan, without pads, for a symbol of `count` data codewords, and says whether
 /// the usual extent surely reads them.
-fn write_plain<const N: usize>(
+fn write_plain(
     extent: Extent,
     items: &[Item],
     plan: &[StepBits],
-    words: &mut ArrayVec<u8, N>,
+    words: &mut ArrayVec<u8, MOST_DATA>,
     count: u16,
 ) -> bool
     requires few { length items.now ≤ LARGEST_ROOM }
@@ -369,12 +355,10 @@ fn write_plain<const N: usize>(
     requires steps { length items.now < length plan.now }
     requires plan { IsRightPlan (at_end extent) items.now plan.now }
     requires room { parts_cost (at_end extent) items.now ≤ count }
-    requires count { count ≤ N }
-    requires most { N ≤ MOST_DATA }
-    ensures spells { SpellsThenPads extent (padded words.new.items count) items.now }
-    ensures usual { IsTrue result → SpellsThenPads Usual (padded words.new.items count) items.now }
+    requires count { count ≤ MOST_DATA }
+    ensures written { AreWritten extent (padded words.new.items count) (as_content items.now) }
+    ensures usual { IsTrue result → SaysThenPads Usual (padded words.new.items count) (as_content items.now) }
     ensures fits { length words.new.items ≤ count }
-    ensures form { IsPlainForm (padded words.new.items count) (as_content items.now) }
 {
     words.clear();
     write_parts(

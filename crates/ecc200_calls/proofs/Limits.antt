@@ -3,7 +3,7 @@ use Rattle.ecc200_calls.proofs.Names.{◌≡◌, ℕ, ◌<◌, ◌≤◌, List, 
 use Rattle.ecc200_calls.proofs.Names.{arith, All, Extent, ContentReadFault, SymbolView, WordsView}
 use Rattle.ecc200_calls.proofs.Names.{ContentReadResult, AreLight, faults_alike, none_lost, restored_alike}
 use Rattle.ecc200_calls.proofs.Names.{restored_back, restored_is_one, said_alike, IsLimit, IsSureLimit}
-use Rattle.ecc200_calls.proofs.Names.{LeavesCorrection, LeavesCorrections}
+use Rattle.ecc200_calls.proofs.Names.{LeavesCorrections}
 use Rattle.dm_symbol.specs.declared.BlockReading.{BlockReading}
 use Rattle.dm_symbol.specs.declared.Dealing.{Dealing}
 use Rattle.dm_symbol.specs.Doubt.{sure_fault_count}
@@ -12,6 +12,10 @@ use Rattle.dm_symbol.specs.declared.ContentReadFault.TheVariants as fault
 use Rattle.dm_symbol.specs.Restored as whole
 use Rattle.ecc200_calls.specs.declared.scan.BorderLimit.{BorderLimit}
 use Rattle.ecc200_calls.specs.declared.scan.BorderLimit.TheVariants.{Modules, Sure}
+
+-- A block leaves a correction unused.
+abbrev LeavesCorrection : BlockReading → Type 0
+LeavesCorrection block = 2 ≤ block.left
 
 -- ---- doubtful modules that are all light
 

@@ -36,24 +36,22 @@ pub use Rattle.dm_symbol.specs.declared.SizeChoice.TheVariants.{Square}
 pub use Rattle.dm_symbol.specs.declared.TooLong.{TooLong}
 pub use Rattle.dm_words.specs.ContentExtents.{as_content}
 pub use Rattle.dm_words.specs.Contents.{AreMarks, ContentView, IsContent}
-pub use Rattle.ecc200_calls.specs.Contents.{IsContentOf, IsFirstWrong, marks_of, marks_shown}
+pub use Rattle.ecc200_calls.specs.Contents.{IsContentOf, IsFirstWrong, mark_shown, marks_of}
 pub use Rattle.ecc200_calls.specs.Inspections.{IsInspectResult, IsInspectionGiven, corrected_shown, erased_shown}
 pub use Rattle.ecc200_calls.specs.Inspections.{left_shown, lost, restored}
-pub use Rattle.ecc200_calls.specs.Items.{number_of, numbers_of}
-pub use Rattle.ecc200_calls.specs.Modules.{AreDoubtful, AreGiven, AreModulesOf, IsGivenFault, module_of, modules_of}
+pub use Rattle.ecc200_calls.specs.Items.{number_of}
+pub use Rattle.ecc200_calls.specs.Modules.{AreDoubtful, AreModulesOf, IsGivenFault, module_of, modules_of}
 pub use Rattle.ecc200_calls.specs.Places.{ArePlacesOf, bit_place, border_place, fixed_place, modules, no_places}
 pub use Rattle.ecc200_calls.specs.Places.{no_size, nothing}
-pub use Rattle.ecc200_calls.specs.Readings.{IsReadResult, IsReadingSought, SoughtResult, corrected_in, erased_in}
-pub use Rattle.ecc200_calls.specs.Readings.{left_in, result_shown}
-pub use Rattle.ecc200_calls.specs.Scans.{IsLimit, IsSureLimit, LeavesCorrection, LeavesCorrections, usual_limit}
-pub use Rattle.ecc200_calls.specs.Symbols.{IsNormalGiven, IsNormalResult, IsNormalSought, NormalisedResult}
-pub use Rattle.ecc200_calls.specs.Symbols.{ProfileResult, no_symbol, normal_shown, symbol_shown}
+pub use Rattle.ecc200_calls.specs.Readings.{IsReadResult, IsReadingGiven}
+pub use Rattle.ecc200_calls.specs.Scans.{IsLimit, IsSureLimit, LeavesCorrections, SoughtResult, usual_limit}
+pub use Rattle.ecc200_calls.specs.Symbols.{IsNormalGiven, IsNormalResult, ProfileResult, no_symbol, symbol_shown}
 pub use Rattle.ecc200_calls.specs.Writings.{IsContentGiven, IsHowFault, IsWriteResult, IsWritingGiven, symbol_given}
 pub use Rattle.ecc200_calls.specs.declared.mark.MarkNumbers.{MarkNumbers}
 pub use Rattle.ecc200_calls.specs.declared.place_table.PlaceOut.{PlaceOut}
 pub use Rattle.ecc200_calls.specs.declared.symbol.SymbolOut.{SymbolOut}
 pub use Rattle.ecc200_calls.specs.inner.PlaceSteps.{structure_by, structure_place, with_bits}
-pub use Rattle.ecc200_calls.specs.inner.Restored.{HasRoomToSay, IsRestored, IsRestoredFor}
+pub use Rattle.ecc200_calls.specs.inner.Restored.{HasRoomToSay, IsAtLimit, IsRestored, IsRestoredFor}
 pub use Rattle.ecc200_calls.specs.inner.UnpackedCells.{unpacked_cells, unpacked_row}
 pub use Rattle.std.proofs.Common.{Bool, Err, Fits, IsSome, List, None, Ok, Option, Result, Some, [], ap, arith}
 pub use Rattle.std.proofs.Common.{below_more, bit_and, bit_or, cond, drop, eqb, false, get_or, get_or-set_other}
@@ -67,7 +65,7 @@ pub use Rattle.std.proofs.lemmas.Bool.{and_parts, cases_lt, eqb-true, false≢tr
 pub use Rattle.std.proofs.lemmas.Bool.Decides.{eqb_tells, nat_tests}
 pub use Rattle.std.proofs.lemmas.List.{append-nil, append_assoc, drop-drop, get_or-drop, get_or-map, get_or-take}
 pub use Rattle.std.proofs.lemmas.List.{get_or_append_left, length-drop, length-map, length-set, length-take-le}
-pub use Rattle.std.proofs.lemmas.List.{map-append, take-append-drop, take-take, take_all, take_more}
+pub use Rattle.std.proofs.lemmas.List.{map-append, map-id, take-append-drop, take-take, take_all, take_more}
 pub use Rattle.std.proofs.lemmas.List.Elements.{All-from_get_or, All-from_recursion, All-get_or, All-head, All-tail}
 pub use Rattle.std.proofs.lemmas.List.Elements.{recursion_from_All}
 pub use Rattle.std.proofs.lemmas.List.FromFn.{fill_by_all, get_or-map-range_with_len, length-map-range_with_len}

@@ -4,9 +4,9 @@ use Rattle.ecc200_calls.proofs.Names.{refl, sym, ◌∙◌, ap, arith, All, leng
 use Rattle.ecc200_calls.proofs.Names.{SizeChoice, TooLong, ContentView, IsContent, AreMarks, size_facts, entry_for}
 use Rattle.ecc200_calls.proofs.Names.{most_data, ContentFits, form_written_is_plain, no_content_written}
 use Rattle.ecc200_calls.proofs.Names.{no_words_written, Profiled, Smallest, MarkNumbers, SymbolOut, number_of}
-use Rattle.ecc200_calls.proofs.Names.{numbers_of, IsContentOf, marks_of, marks_shown, no_symbol, IsContentGiven}
+use Rattle.ecc200_calls.proofs.Names.{map, IsContentOf, marks_of, mark_shown, no_symbol, IsContentGiven}
 use Rattle.ecc200_calls.proofs.Names.{IsWritingGiven}
-use Rattle.ecc200_calls.specs.Faults.{too_long}
+use Rattle.ecc200_calls.specs.Faults.{fault}
 use Rattle.dm_words.specs.Heads.{IsHead}
 use Rattle.dm_words.specs.ContentForm.{content_form}
 use Rattle.dm_words.proofs.Exported.{content_form_counts, said_few}
@@ -15,7 +15,7 @@ use Rattle.dm_symbol.specs.WrittenContent.{IsWrittenAs}
 use Rattle.ecc200_calls.proofs.Messages.{message_there, room_in}
 
 -- Marks have the numbers that stand for them.
-pub marks_again : (marks : List MarkNumbers) → marks_shown (marks_of marks) ≡ marks
+pub marks_again : (marks : List MarkNumbers) → map mark_shown (marks_of marks) ≡ marks
 marks_again [] = refl
 marks_again (m ∷ marks) = ap (λ ms. m ∷ ms) (marks_again marks)
 
@@ -30,7 +30,7 @@ content_given form choice head numbers marks l before after right of given =
 -- So is that of the items and the marks of these numbers.
 pub numbers_given : (form : Form) (choice : SizeChoice) (head : Option Head) (numbers : List ℕ)
     (marks : List MarkNumbers) (items : List Item) (made : List Mark) (before after : SymbolOut) → IsHead head
-    → AreMarks 0 (length numbers) (marks_of marks) → numbers_of items ≡ numbers → IsMessage items
+    → AreMarks 0 (length numbers) (marks_of marks) → map number_of items ≡ numbers → IsMessage items
     → made ≡ marks_of marks
     → IsContentGiven form choice (record { head = head; items = items; marks = made }) before after
     → IsWritingGiven form choice head numbers marks before after
@@ -42,7 +42,7 @@ numbers_given form choice head numbers marks items made before after right are o
       items = fit;
       marks = rw (count, of_marks) are;
     })
-    (record { head_is = refl; items = of_numbers; marks_are = ap marks_shown of_marks ∙ marks_again marks }) given
+    (record { head_is = refl; items = of_numbers; marks_are = ap (map mark_shown) of_marks ∙ marks_again marks }) given
 
 -- A content of more items or marks than the largest symbol has room for fits no size.
 fits_none : (choice : SizeChoice) (profile : Profile) (l : ContentView)
@@ -62,7 +62,7 @@ no_size_given : (form : Form) (choice : SizeChoice) (head : Option Head) (number
     → AreMarks 0 (length numbers) (marks_of marks)
     → ((l : ContentView) → length l.items ≡ length numbers → length l.marks ≡ length marks
     → (why : TooLong) → IsWrittenAs form choice l (Err why))
-    → after ≡ no_symbol too_long before → IsWritingGiven form choice head numbers marks before after
+    → after ≡ no_symbol (fault 14 0 0) before → IsWritingGiven form choice head numbers marks before after
 no_size_given form choice head numbers marks before after right items are none shown =
     let there = message_there numbers items in
     let l : ContentView = record { head = head; items = there.0; marks = marks_of marks } in
@@ -85,7 +85,7 @@ no_size_given form choice head numbers marks before after right items are none s
 pub too_long_given : (form : Form) (choice : SizeChoice) (head : Option Head) (numbers : List ℕ)
     (marks : List MarkNumbers) (before after : SymbolOut) → IsHead head → All (λ number. number ≤ 256) numbers
     → AreMarks 0 (length numbers) (marks_of marks)
-    → (2 * most_data + 7 < length numbers) ⊎ (most_data < 2 * length marks) → after ≡ no_symbol too_long before
+    → (2 * most_data + 7 < length numbers) ⊎ (most_data < 2 * length marks) → after ≡ no_symbol (fault 14 0 0) before
     → IsWritingGiven form choice head numbers marks before after
 too_long_given (Profiled profile) choice head numbers marks before after right items are many shown =
     no_size_given (Profiled profile) choice head numbers marks before after right items are

@@ -1,11 +1,11 @@
 -- What writing a message gives, by what writing its content gives.
 use Rattle.ecc200_calls.proofs.Names.{◌≡◌, List, [], ◌∷◌, Option, None, Result, Ok, Err, refl, ◌∙◌, ap, subst, arith}
 use Rattle.ecc200_calls.proofs.Names.{false≢true, Head, Item, Mark, TooLong, ContentView, as_content, SymbolView}
-use Rattle.ecc200_calls.proofs.Names.{IsContentWritten, marks_shown, IsWritingGiven, symbol_given}
+use Rattle.ecc200_calls.proofs.Names.{IsContentWritten, map, mark_shown, IsWritingGiven, symbol_given}
 use Rattle.ecc200_calls.specs.Laws.{IsMessageWriting, MessagesAreWritten}
 
 -- Where marks have no numbers, there are none.
-no_marks : (marks : List Mark) → marks_shown marks ≡ [] → marks ≡ []
+no_marks : (marks : List Mark) → map mark_shown marks ≡ [] → marks ≡ []
 no_marks [] e = refl
 no_marks (m ∷ marks) e = absurd cc
 

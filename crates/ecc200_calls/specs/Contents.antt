@@ -7,7 +7,7 @@ use Rattle.dm_words.specs.Heads.{IsHead}
 use Rattle.dm_words.specs.Contents.{ContentView, AreMarks}
 use Rattle.ecc200_calls.specs.declared.head.HeadNumbers.{HeadNumbers}
 use Rattle.ecc200_calls.specs.declared.mark.MarkNumbers.{MarkNumbers}
-use Rattle.ecc200_calls.specs.Items.{numbers_of}
+use Rattle.ecc200_calls.specs.Items.{number_of}
 
 -- The numbers of no head are all 0. Those of a symbol of a sequence are 1, its place and the count of the symbols, and
 -- the two halves of the file identification. Those of reader programming are 2, and else 0.
@@ -20,10 +20,6 @@ head_shown (Some Programming) = record { kind = 2; part = 0; parts = 0; file = 0
 -- A mark has the number of its assignment and its place.
 abbrev pub mark_shown : Mark → MarkNumbers
 mark_shown mark = record { number = mark.number; place = mark.place }
-
--- Marks have the numbers of each, in order.
-abbrev pub marks_shown : List Mark → List MarkNumbers
-marks_shown marks = map mark_shown marks
 
 -- These are the numbers of a right head, or of none.
 pub record AreOfHead (numbers : HeadNumbers) (head : Option Head) : Type 0 where
@@ -47,5 +43,5 @@ pub record IsContentOf (head : Option Head) (numbers : List ℕ) (marks : List M
     Type 0
   where
     pub head_is : content.head ≡ head
-    pub items : numbers_of content.items ≡ numbers
-    pub marks_are : marks_shown content.marks ≡ marks
+    pub items : map number_of content.items ≡ numbers
+    pub marks_are : map mark_shown content.marks ≡ marks

@@ -4,7 +4,6 @@ use Rattle.dm_symbol.specs.declared.WordFault.{WordFault}
 use Rattle.dm_symbol.specs.declared.WordFault.TheVariants as word
 use Rattle.dm_symbol.specs.declared.ReadFault.{ReadFault}
 use Rattle.dm_symbol.specs.declared.ReadFault.TheVariants as read
-use Rattle.dm_symbol.specs.declared.ContentFault.{ContentFault}
 use Rattle.dm_symbol.specs.declared.ContentFault.TheVariants as content
 use Rattle.dm_symbol.specs.declared.ContentReadFault.{ContentReadFault}
 use Rattle.dm_symbol.specs.declared.ContentReadFault.TheVariants as read_content
@@ -12,21 +11,20 @@ use Rattle.dm_symbol.specs.declared.ContentNormalFault.{ContentNormalFault}
 use Rattle.dm_symbol.specs.declared.ContentNormalFault.TheVariants as normal_content
 use Rattle.ecc200_calls.specs.declared.fault.Fault.{Fault}
 
--- A fault has these three numbers.
+-- A fault has three numbers, the first of which is a code of the header:
+--      0  there is no fault
+--      3  there are not as many modules as the rows times the columns
+--      4  no size has these rows and columns
+--  5, 6  a symbol isn't read, because of its borders or of a block
+--  7 ..  its data codewords spell no message, to 13, or no content, 20 and 21
+--     14  what is to be written fits no size that may be taken
+--     15  this number, at this index, counted from 0, stands for no item
+--     16  this number stands for no profile, for no extent (17), choice of sizes (18) or border limit (24)
+--     19  doubtful modules are given, but not as many as the symbol has modules
+--     22  the mark with this index, counted from 0, is wrong
+--     23  the numbers of a head are those of none
 abbrev pub fault : ℕ → ℕ → ℕ → Fault
 fault code value place = record { code = code; value = value; place = place }
-
--- There is no fault.
-abbrev pub no_fault : Fault
-no_fault = fault 0 0 0
-
--- There are not as many modules as the rows times the columns.
-abbrev pub shape : Fault
-shape = fault 3 0 0
-
--- No size has these rows and columns.
-abbrev pub no_such_size : ℕ → ℕ → Fault
-no_such_size rows columns = fault 4 rows columns
 
 -- The data codewords spell no message. Places count them from 1.
 abbrev pub word_fault : WordFault → Fault
@@ -45,56 +43,16 @@ read_fault (read.Border count) = fault 5 count 0
 read_fault (read.Block block) = fault 6 0 block
 read_fault (read.Words why) = word_fault why
 
--- The data codewords say no content: they are refused as those of a message are; ECI has no designator; or structured
--- append begins no head.
-abbrev pub content_fault : ContentFault → Fault
-content_fault (content.Word why) = word_fault why
-content_fault (content.Designator place) = fault 20 0 place
-content_fault (content.Append place) = fault 21 0 place
-
--- A symbol is not read as a content: for the same reasons as a message.
+-- A symbol is not read as a content: for the same reasons as a message; because ECI has no designator; or because
+-- structured append begins no head.
 abbrev pub read_content_fault : ContentReadFault → Fault
 read_content_fault (read_content.Border count) = fault 5 count 0
 read_content_fault (read_content.Block block) = fault 6 0 block
-read_content_fault (read_content.Words why) = content_fault why
-
--- A message or a content fits no size that may be taken.
-abbrev pub too_long : Fault
-too_long = fault 14 0 0
+read_content_fault (read_content.Words (content.Word why)) = word_fault why
+read_content_fault (read_content.Words (content.Designator place)) = fault 20 0 place
+read_content_fault (read_content.Words (content.Append place)) = fault 21 0 place
 
 -- A symbol has no normal symbol.
 abbrev pub normal_content_fault : ContentNormalFault → Fault
 normal_content_fault (normal_content.Read why) = read_content_fault why
-normal_content_fault normal_content.TooLong = too_long
-
--- This number, at this index, counted from 0, stands for no item.
-abbrev pub foreign : ℕ → ℕ → Fault
-foreign number place = fault 15 number place
-
--- This number stands for no profile.
-abbrev pub no_such_profile : ℕ → Fault
-no_such_profile number = fault 16 number 0
-
--- This number stands for no extent.
-abbrev pub no_such_extent : ℕ → Fault
-no_such_extent number = fault 17 number 0
-
--- This number stands for no border limit.
-abbrev pub no_such_limit : ℕ → Fault
-no_such_limit number = fault 24 number 0
-
--- This number stands for no choice of sizes.
-abbrev pub no_such_choice : ℕ → Fault
-no_such_choice number = fault 18 number 0
-
--- Doubtful modules are given, but not as many as the symbol has modules.
-abbrev pub wrong_doubt : Fault
-wrong_doubt = fault 19 0 0
-
--- The mark with this index, counted from 0, is wrong.
-abbrev pub wrong_mark : ℕ → Fault
-wrong_mark place = fault 22 0 place
-
--- The numbers of a head are those of none.
-abbrev pub no_such_head : Fault
-no_such_head = fault 23 0 0
+normal_content_fault normal_content.TooLong = fault 14 0 0

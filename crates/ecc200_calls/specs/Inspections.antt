@@ -10,9 +10,9 @@ use Rattle.dm_symbol.specs.SymbolInspection.{IsSymbolInspection}
 use Rattle.ecc200_calls.specs.declared.fault.Fault.{Fault}
 use Rattle.ecc200_calls.specs.declared.inspection.InspectionOut.{InspectionOut}
 use Rattle.ecc200_calls.specs.Arrays.{over}
-use Rattle.ecc200_calls.specs.Faults.{no_fault}
-use Rattle.ecc200_calls.specs.Contents.{marks_shown}
-use Rattle.ecc200_calls.specs.Modules.{AreGiven, IsGivenFault}
+use Rattle.ecc200_calls.specs.Faults.{fault}
+use Rattle.ecc200_calls.specs.Contents.{mark_shown}
+use Rattle.ecc200_calls.specs.Modules.{AreDoubtful, AreModulesOf, IsGivenFault}
 use Rattle.ecc200_calls.specs.Readings.{dealing_shown}
 
 -- After a fault there is that fault, the arrays are as they were before, and all else is 0.
@@ -54,7 +54,7 @@ left_shown None = 0
 abbrev pub inspection_shown : {room : ℕ} → ℕ → ℕ → SymbolInspectionIn room → InspectionOut → InspectionOut
 inspection_shown rows columns inspection before =
     record {
-      fault = no_fault;
+      fault = fault 0 0 0;
       rows = rows;
       columns = columns;
       border_faults = inspection.border_faults;
@@ -83,7 +83,7 @@ abbrev pub with_designators : List Mark → InspectionOut → InspectionOut
 with_designators marks before =
     record before {
       designator_count = length marks;
-      designators = over (marks_shown marks) before.designators;
+      designators = over (map mark_shown marks) before.designators;
     }
 
 -- The designators of an inspected symbol are given.
@@ -106,6 +106,6 @@ pub data IsInspectResult (rows columns : ℕ) (modules doubt : List ℕ) (before
   not_given : (why : Fault) → IsGivenFault rows columns modules doubt why → after ≡ no_inspection why before
       → IsInspectResult rows columns modules doubt before after
   of_symbol : (symbol : SymbolView) (doubtful : Option SymbolView)
-      → AreGiven rows columns modules doubt symbol doubtful
+      → AreModulesOf rows columns modules symbol → AreDoubtful rows columns doubt doubtful
       → IsInspectionGiven rows columns symbol doubtful before after
       → IsInspectResult rows columns modules doubt before after

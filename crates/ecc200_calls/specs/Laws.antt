@@ -1,5 +1,5 @@
 -- What holds of the modules of all symbols, and of messages, which are contents without a head and marks.
-use Rattle.std.specs.Prelude.{◌≡◌, ℕ, ◌*◌, List, [], take, get_or, min, Option, None, Ok, Err}
+use Rattle.std.specs.Prelude.{◌≡◌, ℕ, ◌*◌, List, [], map, take, get_or, min, Option, None, Ok, Err}
 use Rattle.dm_layout.specs.symbols.Symbols.{SymbolView, IsSymbol}
 use Rattle.dm_words.specs.ContentExtents.{as_content}
 use Rattle.dm_symbol.specs.declared.Extent.TheVariants.{Usual}
@@ -15,8 +15,8 @@ use Rattle.dm_symbol.specs.Reading.{content_fault}
 use Rattle.dm_symbol.specs.declared.Form.TheVariants.{Profiled}
 use Rattle.ecc200_calls.specs.declared.reading.ReadingOut.{ReadingOut}
 use Rattle.ecc200_calls.specs.declared.symbol.SymbolOut.{SymbolOut}
-use Rattle.ecc200_calls.specs.Faults.{foreign, read_fault, too_long}
-use Rattle.ecc200_calls.specs.Items.{IsFirstForeign, numbers_of}
+use Rattle.ecc200_calls.specs.Faults.{fault, read_fault}
+use Rattle.ecc200_calls.specs.Items.{IsFirstForeign, number_of}
 use Rattle.ecc200_calls.specs.Modules.{AreModulesOf}
 use Rattle.ecc200_calls.specs.Readings.{IsReadingGiven, no_reading, reading_shown}
 use Rattle.ecc200_calls.specs.Symbols.{IsNormalGiven, no_symbol, symbol_shown}
@@ -40,7 +40,7 @@ pub data IsMessageGiven (rows columns : ℕ) (symbol : SymbolView) (doubtful : O
   read : (reading : ContentReadingView) → ContentReadResult Usual symbol doubtful limit (Ok reading)
       → reading.content ≡ as_content reading.content.items → after ≡ reading_shown rows columns reading before
       → IsMessageGiven rows columns symbol doubtful limit before after
-  fault : (why : ReadFault) → ContentReadResult Usual symbol doubtful limit (Err (content_fault why))
+  refused : (why : ReadFault) → ContentReadResult Usual symbol doubtful limit (Err (content_fault why))
       → after ≡ no_reading (read_fault why) before → IsMessageGiven rows columns symbol doubtful limit before after
 
 -- In the extent `Usual` a message is given for a symbol, or a fault of messages.
@@ -56,12 +56,12 @@ MessagesAreGiven =
 pub data IsMessageWriting (profile : Profile) (choice : SizeChoice) (numbers : List ℕ) (before after : SymbolOut)
     : Type 0 where
   no_message : (place : ℕ) → IsFirstForeign numbers place
-      → after ≡ no_symbol (foreign (get_or numbers place 0) (min place 65535)) before
+      → after ≡ no_symbol (fault 15 (get_or numbers place 0) (min place 65535)) before
       → IsMessageWriting profile choice numbers before after
-  no_size : (message : List Item) → IsMessage message → numbers_of message ≡ numbers
-      → (ContentFits choice profile (as_content message) → ⊥) → after ≡ no_symbol too_long before
+  no_size : (message : List Item) → IsMessage message → map number_of message ≡ numbers
+      → (ContentFits choice profile (as_content message) → ⊥) → after ≡ no_symbol (fault 14 0 0) before
       → IsMessageWriting profile choice numbers before after
-  written : (message : List Item) (symbol : SymbolView) → IsMessage message → numbers_of message ≡ numbers
+  written : (message : List Item) (symbol : SymbolView) → IsMessage message → map number_of message ≡ numbers
       → IsContentWrittenIn choice profile (as_content message) symbol → after ≡ symbol_shown symbol before
       → IsMessageWriting profile choice numbers before after
 
@@ -81,9 +81,9 @@ pub data IsNormalMessageGiven (profile : Profile) (symbol : SymbolView) (doubtfu
       → IsNormalOfContent profile (as_content message) normal_symbol → after ≡ symbol_shown normal_symbol before
       → IsNormalMessageGiven profile symbol doubtful limit before after
   no_square : (message : List Item) → ReadsContent Usual symbol doubtful limit (as_content message)
-      → (ContentFits Square profile (as_content message) → ⊥) → after ≡ no_symbol too_long before
+      → (ContentFits Square profile (as_content message) → ⊥) → after ≡ no_symbol (fault 14 0 0) before
       → IsNormalMessageGiven profile symbol doubtful limit before after
-  fault : (why : ReadFault) → ContentReadResult Usual symbol doubtful limit (Err (content_fault why))
+  refused : (why : ReadFault) → ContentReadResult Usual symbol doubtful limit (Err (content_fault why))
       → after ≡ no_symbol (read_fault why) before → IsNormalMessageGiven profile symbol doubtful limit before after
 
 -- In the extent `Usual` the normal symbol of a message is given for a symbol, or that there is none, or a fault of

@@ -8,7 +8,7 @@ use Rattle.dm_layout.specs.symbols.Border.{is_border, border_is_dark}
 use Rattle.ecc200_calls.specs.declared.fault.Fault.{Fault}
 use Rattle.ecc200_calls.specs.declared.place_table.PlaceOut.{PlaceOut}
 use Rattle.ecc200_calls.specs.declared.place_table.PlacesOut.{PlacesOut}
-use Rattle.ecc200_calls.specs.Faults.{no_fault, no_such_size}
+use Rattle.ecc200_calls.specs.Faults.{fault}
 
 -- This stands where there is no module of the symbol.
 abbrev pub nothing : PlaceOut
@@ -53,9 +53,9 @@ no_places why before = record { fault = why; rows = 0; columns = 0; places = bef
 -- For these rows and columns is given that no size has them, or the modules of the size that has them; what stands
 -- behind these is as it was before.
 pub data IsPlacesResult (rows columns : ℕ) (before after : PlacesOut) : Type 0 where
-  no_size : IsNone (entry_with rows columns) → after ≡ no_places (no_such_size rows columns) before
+  no_size : IsNone (entry_with rows columns) → after ≡ no_places (fault 4 rows columns) before
       → IsPlacesResult rows columns before after
-  modules : (size : SizeEntry) → entry_with rows columns ≡ Some size → after.fault ≡ no_fault → after.rows ≡ rows
+  modules : (size : SizeEntry) → entry_with rows columns ≡ Some size → after.fault ≡ fault 0 0 0 → after.rows ≡ rows
       → after.columns ≡ columns → ArePlacesOf size after.places
       → ((index : ℕ) → area size ≤ index → get_or after.places index nothing ≡ get_or before.places index nothing)
       → IsPlacesResult rows columns before after

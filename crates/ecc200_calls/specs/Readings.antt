@@ -1,7 +1,6 @@
 -- What the library gives for a symbol that is to be read.
-use Rattle.std.specs.Prelude.{◌≡◌, ℕ, List, length, map, Option, None, Result, Ok, Err}
+use Rattle.std.specs.Prelude.{◌≡◌, ℕ, List, length, map, Option, None, Ok, Err}
 use Rattle.dm_symbol.specs.declared.Extent.{Extent}
-use Rattle.dm_symbol.specs.declared.BlockReading.{BlockReading}
 use Rattle.dm_symbol.specs.declared.Dealing.{Dealing}
 use Rattle.dm_symbol.specs.declared.Dealing.TheVariants.{Standard, Restarted}
 use Rattle.dm_symbol.specs.declared.ContentReadFault.{ContentReadFault}
@@ -12,21 +11,10 @@ use Rattle.ecc200_calls.specs.declared.reading.ReadingOut.{ReadingOut}
 use Rattle.ecc200_calls.specs.declared.scan.Scan.{Scan}
 use Rattle.ecc200_calls.specs.declared.scan.Sought.{Sought}
 use Rattle.ecc200_calls.specs.Arrays.{over}
-use Rattle.ecc200_calls.specs.Faults.{no_fault, read_content_fault}
-use Rattle.ecc200_calls.specs.Items.{numbers_of}
-use Rattle.ecc200_calls.specs.Contents.{head_shown, marks_shown}
-use Rattle.ecc200_calls.specs.Modules.{AreGiven, IsGivenFault}
-use Rattle.ecc200_calls.specs.Scans.{IsLimit, sought_of}
-
--- These are the numbers of a block's wrong codewords, of its erased ones, and of the check codewords that neither use.
-abbrev pub corrected_in : BlockReading → ℕ
-corrected_in block = block.corrected
-
-abbrev pub erased_in : BlockReading → ℕ
-erased_in block = block.erased
-
-abbrev pub left_in : BlockReading → ℕ
-left_in block = block.left
+use Rattle.ecc200_calls.specs.Faults.{fault, read_content_fault}
+use Rattle.ecc200_calls.specs.Items.{number_of}
+use Rattle.ecc200_calls.specs.Contents.{head_shown, mark_shown}
+use Rattle.ecc200_calls.specs.Scans.{SoughtResult, sought_of}
 
 -- After a fault there is that fault, the arrays are as they were before, and all else is 0.
 abbrev pub no_reading : Fault → ReadingOut → ReadingOut
@@ -58,7 +46,7 @@ dealing_shown Restarted = 1
 abbrev pub reading_shown : ℕ → ℕ → ContentReadingView → ReadingOut → ReadingOut
 reading_shown rows columns reading before =
     record {
-      fault = no_fault;
+      fault = fault 0 0 0;
       rows = rows;
       columns = columns;
       border_faults = reading.border_faults;
@@ -68,47 +56,30 @@ reading_shown rows columns reading before =
       identifier = reading.identifier;
       dealing = dealing_shown reading.dealing;
       head = head_shown reading.content.head;
-      corrected = over (map corrected_in reading.blocks) before.corrected;
-      erased = over (map erased_in reading.blocks) before.erased;
-      left = over (map left_in reading.blocks) before.left;
-      marks = over (marks_shown reading.content.marks) before.marks;
-      items = over (numbers_of reading.content.items) before.items;
+      corrected = over (map (λ block. block.corrected) reading.blocks) before.corrected;
+      erased = over (map (λ block. block.erased) reading.blocks) before.erased;
+      left = over (map (λ block. block.left) reading.blocks) before.left;
+      marks = over (map mark_shown reading.content.marks) before.marks;
+      items = over (map number_of reading.content.items) before.items;
     }
 
--- A result is given as its reading, or as its fault.
-abbrev pub result_shown : ℕ → ℕ → Result ContentReadingView ContentReadFault → ReadingOut → ReadingOut
-result_shown rows columns (Ok reading) before = reading_shown rows columns reading before
-result_shown rows columns (Err why) before = no_reading (read_content_fault why) before
-
--- The result of reading a symbol as a content in an extent, with these of its modules doubtful, is given.
-pub record IsReadingGiven (extent : Extent) (rows columns : ℕ) (symbol : SymbolView) (doubtful : Option SymbolView)
+-- The result of reading a symbol as a content in an extent, with these of its modules doubtful, is given: a reading, or
+-- a fault.
+pub data IsReadingGiven (extent : Extent) (rows columns : ℕ) (symbol : SymbolView) (doubtful : Option SymbolView)
     (limit : ℕ) (before after : ReadingOut) : Type 0 where
-  pub result : Result ContentReadingView ContentReadFault
-  pub result_is : ContentReadResult extent symbol doubtful limit result
-  pub shown : after ≡ result_shown rows columns result before
-
--- What is sought in a symbol, with these of its modules doubtful, is given: the result of reading it in the extent at
--- the border limit.
-pub record IsReadingSought (sought : Sought) (rows columns : ℕ) (symbol : SymbolView) (doubtful : Option SymbolView)
-    (before after : ReadingOut) : Type 0 where
-  pub limit : ℕ
-  pub limit_is : IsLimit sought.limit sought.extent symbol doubtful limit
-  pub given : IsReadingGiven sought.extent rows columns symbol doubtful limit before after
-
--- Reading these modules gives the reason why they make no symbol, or what is sought in their symbol.
-pub data SoughtResult (sought : Sought) (rows columns : ℕ) (modules doubt : List ℕ) (before after : ReadingOut)
-    : Type 0 where
-  not_given : (why : Fault) → IsGivenFault rows columns modules doubt why → after ≡ no_reading why before
-      → SoughtResult sought rows columns modules doubt before after
-  of_symbol : (symbol : SymbolView) (doubtful : Option SymbolView)
-      → AreGiven rows columns modules doubt symbol doubtful
-      → IsReadingSought sought rows columns symbol doubtful before after
-      → SoughtResult sought rows columns modules doubt before after
+  read : (reading : ContentReadingView) → ContentReadResult extent symbol doubtful limit (Ok reading)
+      → after ≡ reading_shown rows columns reading before
+      → IsReadingGiven extent rows columns symbol doubtful limit before after
+  refused : (why : ContentReadFault) → ContentReadResult extent symbol doubtful limit (Err why)
+      → after ≡ no_reading (read_content_fault why) before
+      → IsReadingGiven extent rows columns symbol doubtful limit before after
 
 -- Reading these modules by the numbers of a scan gives why what they ask for can't be, or the result for it.
 pub data IsReadResult (modules doubt : List ℕ) (scan : Scan) (before after : ReadingOut) : Type 0 where
   not_sought : (why : Fault) → sought_of scan ≡ Err why → after ≡ no_reading why before
       → IsReadResult modules doubt scan before after
   sought : (sought : Sought) → sought_of scan ≡ Ok sought
-      → SoughtResult sought sought.rows sought.columns modules doubt before after
+      → SoughtResult sought modules doubt (λ why. after ≡ no_reading why before)
+      (λ symbol doubtful limit.
+      IsReadingGiven sought.extent sought.rows sought.columns symbol doubtful limit before after)
       → IsReadResult modules doubt scan before after

@@ -13,7 +13,8 @@ use Rattle.ecc200_calls.specs.declared.scan.BorderLimit.TheVariants.{Modules, Su
 use Rattle.ecc200_calls.specs.declared.scan.Scan.{Scan}
 use Rattle.ecc200_calls.specs.declared.scan.Sought.{Sought}
 use Rattle.ecc200_calls.specs.Extents.{extent_of}
-use Rattle.ecc200_calls.specs.Faults.{no_such_extent, no_such_limit}
+use Rattle.ecc200_calls.specs.Faults.{fault}
+use Rattle.ecc200_calls.specs.Modules.{AreDoubtful, AreModulesOf, IsGivenFault}
 
 -- ---- the numbers
 
@@ -22,17 +23,13 @@ use Rattle.ecc200_calls.specs.Faults.{no_such_extent, no_such_limit}
 abbrev pub usual_limit : ℕ → ℕ → ℕ
 usual_limit rows columns = (rows + columns) / 8
 
--- No symbol has more border faults than this.
-abbrev pub any_limit : ℕ
-any_limit = 65535
-
--- The number 0 stands for the usual border limit, 1 for as many border faults as are sure, 2 for any number of them, 3
--- for the limit that is given, and no other number for any.
+-- The number 0 stands for the usual border limit, 1 for as many border faults as are sure, 2 for any number of them,
+-- since no symbol has more than 65,535, 3 for the limit that is given, and no other number for any.
 abbrev pub limit_of : Scan → Option BorderLimit
 limit_of scan =
     if nat_eq scan.limit 0 then Some (Modules (usual_limit scan.rows scan.columns))
     else (if nat_eq scan.limit 1 then Some Sure
-    else (if nat_eq scan.limit 2 then Some (Modules any_limit)
+    else (if nat_eq scan.limit 2 then Some (Modules 65535)
     else (if nat_eq scan.limit 3 then Some (Modules scan.border_limit) else None)))
 
 -- The numbers ask for an extent and a border limit that there are; or it is said which of them there isn't, the extent
@@ -40,8 +37,8 @@ limit_of scan =
 abbrev pub sought_by : Scan → Option Extent → Option BorderLimit → Result Sought Fault
 sought_by scan (Some extent) (Some limit) =
     Ok (record { rows = scan.rows; columns = scan.columns; extent = extent; limit = limit })
-sought_by scan (Some extent) None = Err (no_such_limit scan.limit)
-sought_by scan None limit = Err (no_such_extent scan.extent)
+sought_by scan (Some extent) None = Err (fault 24 scan.limit 0)
+sought_by scan None limit = Err (fault 17 scan.extent 0)
 
 -- What the numbers ask for, or why that can't be.
 abbrev pub sought_of : Scan → Result Sought Fault
@@ -49,17 +46,14 @@ sought_of scan = sought_by scan (extent_of scan.extent) (limit_of scan)
 
 -- ---- the border limit
 
--- A block leaves a correction unused: two of its check codewords.
-abbrev pub LeavesCorrection : BlockReading → Type 0
-LeavesCorrection block = 2 ≤ block.left
-
--- The words of a symbol are restored in an extent so that each block leaves a correction unused.
+-- The words of a symbol are restored in an extent so that each block leaves a correction unused: two of its check
+-- codewords.
 pub record LeavesCorrections (extent : Extent) (symbol : SymbolView) (doubtful : Option SymbolView) : Type 0 where
   pub dealing : Dealing
   pub words : List ℕ
   pub codewords : List ℕ
   pub restored : AreRestored extent symbol doubtful dealing words codewords
-  pub left : All LeavesCorrection (readings_by dealing symbol.size doubtful words codewords)
+  pub left : All (λ (block : BlockReading). 2 ≤ block.left) (readings_by dealing symbol.size doubtful words codewords)
 
 -- As many border faults are sure: as many as usual where there are no more, and where there are more as many as there
 -- are, if each block leaves a correction unused, or else as many as usual. That this shows the symbol to be one is a
@@ -78,3 +72,17 @@ pub data IsSureLimit (extent : Extent) (symbol : SymbolView) (doubtful : Option 
 abbrev pub IsLimit : BorderLimit → Extent → SymbolView → Option SymbolView → ℕ → Type 0
 IsLimit (Modules number) extent symbol doubtful limit = limit ≡ number
 IsLimit Sure extent symbol doubtful limit = IsSureLimit extent symbol doubtful limit
+
+-- ---- what is sought
+
+-- For what is sought in these modules, some of them doubtful, is given why they make no symbol; or what there is to
+-- give for their symbol at the border limit.
+pub data SoughtResult (sought : Sought) (modules doubt : List ℕ) (Refused : Fault → Type 0)
+    (Given : SymbolView → Option SymbolView → ℕ → Type 0) : Type 0 where
+  not_given : (why : Fault) → IsGivenFault sought.rows sought.columns modules doubt why → Refused why
+      → SoughtResult sought modules doubt Refused Given
+  of_symbol : (symbol : SymbolView) (doubtful : Option SymbolView) (limit : ℕ)
+      → AreModulesOf sought.rows sought.columns modules symbol
+      → AreDoubtful sought.rows sought.columns doubt doubtful
+      → IsLimit sought.limit sought.extent symbol doubtful limit → Given symbol doubtful limit
+      → SoughtResult sought modules doubt Refused Given

@@ -18,8 +18,7 @@ use Rattle.ecc200_calls.specs.declared.mark.MarkNumbers.{MarkNumbers}
 use Rattle.ecc200_calls.specs.declared.symbol.SymbolOut.{SymbolOut}
 use Rattle.ecc200_calls.specs.Choices.{choice_of}
 use Rattle.ecc200_calls.specs.Extents.{extent_of}
-use Rattle.ecc200_calls.specs.Faults.{too_long, foreign, no_such_choice, no_such_extent, no_such_head}
-use Rattle.ecc200_calls.specs.Faults.{no_such_profile, wrong_mark}
+use Rattle.ecc200_calls.specs.Faults.{fault}
 use Rattle.ecc200_calls.specs.Items.{IsFirstForeign}
 use Rattle.ecc200_calls.specs.Contents.{AreOfHead, IsFirstWrong, IsContentOf}
 use Rattle.ecc200_calls.specs.Symbols.{no_symbol, symbol_shown}
@@ -27,7 +26,7 @@ use Rattle.ecc200_calls.specs.Symbols.{no_symbol, symbol_shown}
 -- The smallest symbol for readers of an extent is a form; a number that stands for no extent is a fault.
 abbrev pub smallest_form : ℕ → Option Extent → Result Form Fault
 smallest_form number (Some extent) = Ok (Smallest extent)
-smallest_form number None = Err (no_such_extent number)
+smallest_form number None = Err (fault 17 number 0)
 
 -- The form 0 stands for the profile `Ascii`, 1 for `Shorter`, 2 for the smallest symbol for readers of the extent that
 -- is given, and no other number for any.
@@ -36,16 +35,16 @@ form_of how =
     if nat_eq how.form 0 then Ok (Profiled Ascii)
     else (if nat_eq how.form 1 then Ok (Profiled Shorter)
     else (if nat_eq how.form 2 then smallest_form how.extent (extent_of how.extent)
-    else Err (no_such_profile how.form)))
+    else Err (fault 16 how.form 0)))
 
 -- What the numbers of a caller ask for can't be: the first of these that there is. There is no such form; no choice of
 -- sizes has the number of the shape; or the numbers of a head are those of none.
 pub data IsHowFault (how : How) (why : Fault) : Type 0 where
   no_form : form_of how ≡ Err why → IsHowFault how why
-  no_choice : (form : Form) → form_of how ≡ Ok form → choice_of how ≡ None → why ≡ no_such_choice how.shape
+  no_choice : (form : Form) → form_of how ≡ Ok form → choice_of how ≡ None → why ≡ fault 18 how.shape 0
       → IsHowFault how why
   no_head : (form : Form) (choice : SizeChoice) → form_of how ≡ Ok form → choice_of how ≡ Some choice
-      → ((head : Option Head) → AreOfHead how.head head → ⊥) → why ≡ no_such_head → IsHowFault how why
+      → ((head : Option Head) → AreOfHead how.head head → ⊥) → why ≡ fault 23 0 0 → IsHowFault how why
 
 -- The numbers ask for this form, this choice of sizes, and this head or none.
 pub record AskFor (how : How) (form : Form) (choice : SizeChoice) (head : Option Head) : Type 0 where
@@ -56,7 +55,7 @@ pub record AskFor (how : How) (form : Form) (choice : SizeChoice) (head : Option
 -- A symbol is given, or that the content fits no size.
 abbrev pub symbol_given : Result SymbolView TooLong → SymbolOut → SymbolOut
 symbol_given (Ok symbol) before = symbol_shown symbol before
-symbol_given (Err why) before = no_symbol too_long before
+symbol_given (Err why) before = no_symbol (fault 14 0 0) before
 
 -- What writing a content in a form and in a choice of sizes gives is given: its symbol, or that it fits no size of the
 -- choice.
@@ -73,10 +72,10 @@ pub record IsContentGiven (form : Form) (choice : SizeChoice) (content : Content
 pub data IsWritingGiven (form : Form) (choice : SizeChoice) (head : Option Head) (numbers : List ℕ)
     (marks : List MarkNumbers) (before after : SymbolOut) : Type 0 where
   no_item : (place : ℕ) → IsFirstForeign numbers place
-      → after ≡ no_symbol (foreign (get_or numbers place 0) (min place 65535)) before
+      → after ≡ no_symbol (fault 15 (get_or numbers place 0) (min place 65535)) before
       → IsWritingGiven form choice head numbers marks before after
   no_mark : (place : ℕ) → All (λ number. number ≤ 256) numbers → IsFirstWrong (length numbers) marks place
-      → after ≡ no_symbol (wrong_mark (min place 65535)) before
+      → after ≡ no_symbol (fault 22 0 (min place 65535)) before
       → IsWritingGiven form choice head numbers marks before after
   content : (content : ContentView) → IsContent content → IsContentOf head numbers marks content
       → (given : IsContentGiven form choice content before after)

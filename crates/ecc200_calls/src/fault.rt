@@ -1,9 +1,7 @@
 //! Faults as numbers.
 
 ghost use Rattle.std.specs.Prelude.{◌≡◌};
-ghost use Rattle.ecc200_calls.specs.Faults.{fault, foreign, content_fault, no_fault, no_such_choice, no_such_extent};
-ghost use Rattle.ecc200_calls.specs.Faults.{no_such_head, no_such_limit, no_such_profile, no_such_size};
-ghost use Rattle.ecc200_calls.specs.Faults.{read_content_fault, shape, too_long, word_fault, wrong_doubt, wrong_mark};
+ghost use Rattle.ecc200_calls.specs.Faults.{fault, read_content_fault, word_fault};
 
 use dm_symbol::{ContentFault, ContentReadFault, WordFault};
 
@@ -27,84 +25,84 @@ impl Fault {
 
     /// Says that there is no fault.
     pub(crate) fn none() -> Fault
-        ensures { result ≡ no_fault }
+        ensures { result ≡ fault 0 0 0 }
     {
         Fault::of(0, 0, 0)
     }
 
     /// Says that there are not as many modules as the rows times the columns.
     pub(crate) fn shape() -> Fault
-        ensures { result ≡ shape }
+        ensures { result ≡ fault 3 0 0 }
     {
         Fault::of(3, 0, 0)
     }
 
     /// Says that no size has these rows and columns.
     pub(crate) fn no_such_size(rows: u16, columns: u16) -> Fault
-        ensures { result ≡ no_such_size rows columns }
+        ensures { result ≡ fault 4 rows columns }
     {
         Fault::of(4, rows, columns)
     }
 
     /// Says that a message fits no size that may be taken.
     pub(crate) fn too_long() -> Fault
-        ensures { result ≡ too_long }
+        ensures { result ≡ fault 14 0 0 }
     {
         Fault::of(14, 0, 0)
     }
 
     /// Says that this number, at this place, stands for no item.
     pub(crate) fn foreign(number: u16, place: u16) -> Fault
-        ensures { result ≡ foreign number place }
+        ensures { result ≡ fault 15 number place }
     {
         Fault::of(15, number, place)
     }
 
     /// Says that this number stands for no profile.
     pub(crate) fn no_such_profile(number: u16) -> Fault
-        ensures { result ≡ no_such_profile number }
+        ensures { result ≡ fault 16 number 0 }
     {
         Fault::of(16, number, 0)
     }
 
     /// Says that this number stands for no extent.
     pub(crate) fn no_such_extent(number: u16) -> Fault
-        ensures { result ≡ no_such_extent number }
+        ensures { result ≡ fault 17 number 0 }
     {
         Fault::of(17, number, 0)
     }
 
     /// Says that this number stands for no border limit.
     pub(crate) fn no_such_limit(number: u16) -> Fault
-        ensures { result ≡ no_such_limit number }
+        ensures { result ≡ fault 24 number 0 }
     {
         Fault::of(24, number, 0)
     }
 
     /// Says that this number stands for no choice of sizes.
     pub(crate) fn no_such_choice(number: u16) -> Fault
-        ensures { result ≡ no_such_choice number }
+        ensures { result ≡ fault 18 number 0 }
     {
         Fault::of(18, number, 0)
     }
 
     /// Says that the mark with this index is wrong.
     pub(crate) fn wrong_mark(place: u16) -> Fault
-        ensures { result ≡ wrong_mark place }
+        ensures { result ≡ fault 22 0 place }
     {
         Fault::of(22, 0, place)
     }
 
     /// Says that the numbers of a head are those of none.
     pub(crate) fn no_such_head() -> Fault
-        ensures { result ≡ no_such_head }
+        ensures { result ≡ fault 23 0 0 }
     {
         Fault::of(23, 0, 0)
     }
 
     /// Says that doubtful modules are given, but not as many as there are modules.
     pub(crate) fn wrong_doubt() -> Fault
-        ensures { result ≡ wrong_doubt }
+        ensures { result ≡ fault 19 0 0 }
     {
         Fault::of(19, 0, 0)
     }
@@ -132,17 +130,8 @@ pub(crate) fn read_content_fault(why: ContentReadFault) -> Fault
     match why {
         ContentReadFault::Border(count) => Fault::of(5, count, 0),
         ContentReadFault::Block(block) => Fault::of(6, 0, u16::from(block)),
-        ContentReadFault::Words(why) => content_fault(why),
-    }
-}
-
-/// Gives the fault of data codewords that say no content.
-fn content_fault(why: ContentFault) -> Fault
-    ensures { result ≡ content_fault why }
-{
-    match why {
-        ContentFault::Word(why) => word_fault(why),
-        ContentFault::Designator(place) => Fault::of(20, 0, place),
-        ContentFault::Append(place) => Fault::of(21, 0, place),
+        ContentReadFault::Words(ContentFault::Word(why)) => word_fault(why),
+        ContentReadFault::Words(ContentFault::Designator(place)) => Fault::of(20, 0, place),
+        ContentReadFault::Words(ContentFault::Append(place)) => Fault::of(21, 0, place),
     }
 }

@@ -18,9 +18,7 @@ use crate::reading::dealing_number;
 use crate::room::*;
 use arrayvec::ArrayVec;
 use dm_layout::symbols::{MOST_BLOCKS, MOST_CODEWORDS, MOST_DATA, SymbolIn, SymbolSize};
-use dm_symbol::{
-    BlockReading, LARGEST_MARKS, Mark, SymbolInspectionIn, has_lost, inspect_symbol_to,
-};
+use dm_symbol::{BlockReading, LARGEST_MARKS, Mark, SymbolInspectionIn, inspect_symbol_to};
 use dm_words::{designations_to, has_eci};
 
 /// This is shown instead of the number of corrected codewords where a block is beyond correction.
@@ -158,7 +156,7 @@ fn show_designators<const WORDS: usize>(
     ensures { AreDesignatorsGiven inspection.now out.old out.new }
 {
     let words = inspection.mended.data_part();
-    if has_lost(inspection.blocks.as_slice()) {
+    if inspection.blocks.iter().any(|block| block.is_none()) {
         out.designator_count = 0;
     } else if has_eci(words) {
         find_designators(out, words);

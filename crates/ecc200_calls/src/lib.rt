@@ -19,6 +19,7 @@
 //! room a call takes.
 #![tactic(auto)]
 
+mod answer;
 mod arrays;
 mod choice;
 mod extent;

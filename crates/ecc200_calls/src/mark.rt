@@ -1,9 +1,9 @@
 //! Marks as numbers.
 
-ghost use Rattle.std.specs.Prelude.{◌≡◌, ◌≤◌, IfNone, IfSome, length, take};
+ghost use Rattle.std.specs.Prelude.{◌≡◌, ◌≤◌, IfNone, IfSome, length, map, take};
 ghost use Rattle.dm_words.specs.Contents.{AreMarks};
 ghost use Rattle.ecc200_calls.specs.Arrays.{over};
-ghost use Rattle.ecc200_calls.specs.Contents.{IsFirstWrong, mark_shown, marks_of, marks_shown};
+ghost use Rattle.ecc200_calls.specs.Contents.{IsFirstWrong, mark_shown, marks_of};
 
 use dm_symbol::Mark;
 use dm_words::{LARGEST_ROOM, MOST_ASSIGNED};
@@ -52,7 +52,7 @@ pub(crate) fn put_marks_of(all: &mut [Mark], marks: &[MarkNumbers], count: usize
 /// Writes the numbers of marks over the first ones.
 pub(crate) fn put_marks(all: &mut [MarkNumbers], marks: &[Mark])
     requires { length marks.now ≤ length all.old }
-    ensures { all.new ≡ over (marks_shown marks.now) all.old }
+    ensures { all.new ≡ over (map mark_shown marks.now) all.old }
 {
     for (i, mark) in marks.iter().enumerate() {
         all[i] = mark_shown(*mark);

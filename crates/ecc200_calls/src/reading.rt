@@ -1,34 +1,20 @@
 //! Reading.
 
-ghost use Rattle.std.specs.Prelude.{◌≡◌, ◌≤◌, ◌/◌, ℕ, Option, IsTrue, length, map};
-ghost use Rattle.dm_layout.specs.symbols.Sizes.{area};
-ghost use Rattle.dm_layout.specs.symbols.Symbols.{SymbolView};
-ghost use Rattle.dm_layout.specs.symbols.Words.{data_of};
-ghost use Rattle.dm_words.specs.Contents.{HasMarkRoom};
-ghost use Rattle.dm_words.specs.Messages.{most_spelled};
-ghost use Rattle.dm_symbol.specs.ContentReading.{content_reading_of};
+ghost use Rattle.std.specs.Prelude.{◌≡◌, ◌≤◌, ◌/◌, length, map};
 ghost use Rattle.ecc200_calls.specs.Arrays.{over};
-ghost use Rattle.ecc200_calls.specs.Readings.{IsReadResult, IsReadingGiven, IsReadingSought, SoughtResult};
-ghost use Rattle.ecc200_calls.specs.Readings.{corrected_in, dealing_shown, erased_in, left_in, no_reading};
-ghost use Rattle.ecc200_calls.specs.Readings.{reading_shown};
-ghost use Rattle.ecc200_calls.specs.Scans.{usual_limit};
-ghost use Rattle.ecc200_calls.specs.inner.Given.{IsOfGiven};
-ghost use Rattle.ecc200_calls.specs.inner.Restored.{HasRoomToSay, IsRestored};
-ghost use Rattle.ecc200_calls.specs.inner.Rooms.{HasRoom};
+ghost use Rattle.ecc200_calls.specs.Readings.{IsReadResult, IsReadingGiven, dealing_shown, no_reading, reading_shown};
+ghost use Rattle.ecc200_calls.specs.Scans.{SoughtResult, usual_limit};
+ghost use Rattle.ecc200_calls.specs.inner.Restored.{reading_said};
 
+use crate::answer::{Answer, Said, answer_known};
 use crate::fault::{Fault, read_content_fault};
-use crate::given::{Given, check_given};
+use crate::given::check_given;
 use crate::head::{HeadNumbers, head_shown};
 use crate::mark::{MarkNumbers, put_marks};
 use crate::message::put_items;
-use crate::restoring::{Restored, has_few_marks, restore_given};
-use crate::room::*;
 use crate::scan::{Scan, Sought, check_scan};
-use dm_layout::symbols::{MOST_BLOCKS, SymbolSize, SymbolWordsIn};
-use dm_symbol::{
-    BlockReading, ContentIn, ContentReadFault, Dealing, Extent, LARGEST_MARKS, LARGEST_ROOM,
-};
-use dm_words::{content_to_as, symbology_number};
+use dm_layout::symbols::MOST_BLOCKS;
+use dm_symbol::{BlockReading, ContentReadFault, Dealing, LARGEST_MARKS, LARGEST_ROOM};
 
 /// What a symbol says, and how much of it was wrong. After a fault all but the fault and the arrays is 0.
 #[repr(C)]
@@ -73,105 +59,31 @@ pub fn usual_limit(rows: u16, columns: u16) -> u16
 
 /// Shows what is sought in the symbol of these modules, or why it says nothing.
 fn read_sought(sought: Sought, modules: &[u8], doubtful: &[u8], out: &mut ReadingOut)
-    ensures { SoughtResult sought sought.rows sought.columns modules.now doubtful.now out.old
-        out.new }
+    ensures { SoughtResult sought modules.now doubtful.now (λ why. out.new ≡ no_reading why out.old)
+        (λ symbol doubtful limit. IsReadingGiven sought.extent sought.rows sought.columns symbol
+        doubtful limit out.old out.new) }
 {
     match check_given(modules, doubtful, sought.rows, sought.columns) {
-        Ok(given) => read_known(sought, modules, doubtful, given, out),
+        Ok(given) => answer_known(&Reading, sought, modules, doubtful, given, out),
         Err(why) => show_fault(out, why),
     }
 }
 
-/// Shows what the symbol says, or why it says nothing, in a room that serves for it.
-fn read_known(sought: Sought, modules: &[u8], doubtful: &[u8], given: Given, out: &mut ReadingOut)
-    requires modules { length modules.now ≡ area given.size }
-    requires doubtful { IsTrue given.doubt → length doubtful.now ≡ area given.size }
-    ensures { IsOfGiven given.size modules.now doubtful.now given.doubt (λ symbol doubtful.
-        IsReadingSought sought given.size.rows given.size.columns symbol doubtful out.old out.new) }
-{
-    in_room!(
-        Room::of(given.size),
-        read_given::<ROWS, WORDS, ITEMS, MARKS>(sought, modules, doubtful, given, out)
-    )
-}
+/// That a call gives what a symbol says.
+#[derive(Clone, Copy)]
+struct Reading;
 
-/// Does so in a room that serves for the symbol. It stands by itself, so that no other room is left for it on the
-/// stack.
-#[inline(never)]
-fn read_given<const ROWS: usize, const WORDS: usize, const ITEMS: usize, const MARKS: usize>(
-    sought: Sought,
-    modules: &[u8],
-    doubtful: &[u8],
-    given: Given,
-    out: &mut ReadingOut,
-)
-    requires room { HasRoom ROWS WORDS ITEMS MARKS given.size }
-    requires modules { length modules.now ≡ area given.size }
-    requires doubtful { IsTrue given.doubt → length doubtful.now ≡ area given.size }
-    ensures { IsOfGiven given.size modules.now doubtful.now given.doubt (λ symbol doubtful.
-        IsReadingSought sought given.size.rows given.size.columns symbol doubtful out.old out.new) }
-{
-    let mut words = SymbolWordsIn::<WORDS>::zeros(given.size);
-    let mut restored = Restored::new();
-    match restore_given::<ROWS, WORDS>(
-        sought,
-        modules,
-        doubtful,
-        given,
-        &mut words,
-        &mut restored,
-    ) {
-        Ok(()) => read_restored::<WORDS, ITEMS, MARKS>(sought.extent, &words, &restored, out),
-        Err(why) => show_fault(out, read_content_fault(why)),
+impl Answer for Reading {
+    type Out = ReadingOut;
+
+    ghost IsGiven = { λ reading. IsReadingGiven };
+
+    fn show(&self, said: &Said, out: &mut ReadingOut) {
+        show_reading(out, said);
     }
-}
 
-/// Shows what restored codewords say in an extent, or why they say nothing, in room for the marks that they can say.
-fn read_restored<const WORDS: usize, const ITEMS: usize, const MARKS: usize>(
-    extent: Extent,
-    words: &SymbolWordsIn<WORDS>,
-    restored: &Restored,
-    out: &mut ReadingOut,
-)
-    requires { HasRoomToSay ITEMS MARKS words.now.size.data_count }
-    ensures { (symbol : SymbolView) (doubtful : Option SymbolView) (limit : ℕ)
-        → IsRestored extent symbol doubtful limit words.now restored.now
-        → IsReadingGiven extent words.now.size.rows words.now.size.columns symbol doubtful limit out.old
-        out.new }
-{
-    if has_few_marks::<MARKS>(words.data_part()) {
-        read_words::<WORDS, ITEMS, SMALL_MARKS>(extent, words, restored, out);
-    } else {
-        read_words::<WORDS, ITEMS, MARKS>(extent, words, restored, out);
-    }
-}
-
-/// Does so with room for so many marks. It stands by itself, so that there is room for one content on the stack.
-#[tactic(auto, using(crate::proofs::Rooms::data_few, crate::proofs::Rooms::data_count_is))]
-#[inline(never)]
-fn read_words<const WORDS: usize, const ITEMS: usize, const MARKS: usize>(
-    extent: Extent,
-    words: &SymbolWordsIn<WORDS>,
-    restored: &Restored,
-    out: &mut ReadingOut,
-)
-    requires items { most_spelled extent words.now.size.data_count ≤ ITEMS }
-    requires most { ITEMS ≤ LARGEST_ROOM }
-    requires marks { HasMarkRoom MARKS (data_of words.now) }
-    requires few_marks { MARKS ≤ LARGEST_MARKS }
-    ensures { (symbol : SymbolView) (doubtful : Option SymbolView) (limit : ℕ)
-        → IsRestored extent symbol doubtful limit words.now restored.now
-        → IsReadingGiven extent words.now.size.rows words.now.size.columns symbol doubtful limit out.old
-        out.new }
-{
-    let list = words.data_part();
-    let mut content = ContentIn::<ITEMS, MARKS>::new();
-    match content_to_as(extent, list, &mut content) {
-        Ok(()) => {
-            let identifier = symbology_number(list, &content);
-            show_reading(out, words.size(), &content, identifier, restored);
-        }
-        Err(why) => show_fault(out, read_content_fault(ContentReadFault::Words(why))),
+    fn refuse(&self, why: ContentReadFault, out: &mut ReadingOut) {
+        show_fault(out, read_content_fault(why));
     }
 }
 
@@ -201,33 +113,26 @@ pub(crate) fn dealing_number(dealing: Dealing) -> u16
     }
 }
 
-/// Shows what a symbol of this size says: a content, with the number of its identifier, and what is known of its
-/// restored codewords.
+/// Shows what a symbol says.
 #[inline]
-fn show_reading<const ITEMS: usize, const MARKS: usize>(
-    out: &mut ReadingOut,
-    size: SymbolSize,
-    content: &ContentIn<ITEMS, MARKS>,
-    identifier: u8,
-    restored: &Restored,
-)
-    requires items { ITEMS ≤ LARGEST_ROOM }
-    requires marks { MARKS ≤ LARGEST_MARKS }
-    ensures { out.new ≡ reading_shown size.rows size.columns (content_reading_of content.now identifier
-        restored.now.dealing restored.now.blocks.items restored.now.border_faults) out.old }
+fn show_reading(out: &mut ReadingOut, said: &Said)
+    requires items { length said.now.items.now ≤ LARGEST_ROOM }
+    requires marks { length said.now.marks.now ≤ LARGEST_MARKS }
+    ensures { out.new ≡ reading_shown said.now.size.rows said.now.size.columns (reading_said said.now)
+        out.old }
 {
+    let (items, marks) = (said.items, said.marks);
+    let restored = said.restored;
     let blocks = restored.blocks.as_slice();
-    let marks = content.marks();
-    let items = content.items();
     out.fault = Fault::none();
-    out.rows = size.rows();
-    out.columns = size.columns();
+    out.rows = said.size.rows();
+    out.columns = said.size.columns();
     out.border_faults = restored.border_faults;
     out.block_count = blocks.len() as u16;
     put_counts(&mut out.corrected, &mut out.erased, &mut out.left, blocks);
-    out.identifier = u16::from(identifier);
+    out.identifier = u16::from(said.identifier);
     out.dealing = dealing_number(restored.dealing);
-    out.head = head_shown(content.head());
+    out.head = head_shown(said.head);
     out.mark_count = marks.len() as u16;
     put_marks(&mut out.marks, marks);
     out.item_count = items.len() as u16;
@@ -240,9 +145,9 @@ fn put_counts(corrected: &mut [u8], erased: &mut [u8], left: &mut [u8], blocks: 
     requires corrected_room { length blocks.now ≤ length corrected.old }
     requires erased_room { length blocks.now ≤ length erased.old }
     requires left_room { length blocks.now ≤ length left.old }
-    ensures corrected { corrected.new ≡ over (map corrected_in blocks.now) corrected.old }
-    ensures erased { erased.new ≡ over (map erased_in blocks.now) erased.old }
-    ensures left { left.new ≡ over (map left_in blocks.now) left.old }
+    ensures corrected { corrected.new ≡ over (map (λ block. block.corrected) blocks.now) corrected.old }
+    ensures erased { erased.new ≡ over (map (λ block. block.erased) blocks.now) erased.old }
+    ensures left { left.new ≡ over (map (λ block. block.left) blocks.now) left.old }
 {
     for (b, block) in blocks.iter().enumerate() {
         corrected[b] = block.corrected;

@@ -6,7 +6,7 @@ ghost use Rattle.dm_layout.specs.symbols.Sizes.{area, codeword_count};
 ghost use Rattle.dm_symbol.specs.declared.ContentFault.{ContentFault};
 ghost use Rattle.dm_symbol.specs.Doubt.{sure_fault_count};
 ghost use Rattle.dm_words.specs.Contents.{eci_count};
-ghost use Rattle.ecc200_calls.specs.Scans.{LeavesCorrection, LeavesCorrections};
+ghost use Rattle.ecc200_calls.specs.Scans.{LeavesCorrections};
 ghost use Rattle.ecc200_calls.specs.inner.Given.{IsOfGiven};
 ghost use Rattle.ecc200_calls.specs.inner.Restored.{IsRestored, IsRestoredFor, IsRestoredOr};
 ghost use Rattle.ecc200_calls.specs.inner.Rooms.{IsRoom};
@@ -192,8 +192,8 @@ fn restore_if_sure<const ROWS: usize, const WORDS: usize>(
 
 /// Whether each block leaves a correction unused.
 fn leave_corrections(blocks: &[BlockReading]) -> bool
-    ensures all { IsTrue result → All LeavesCorrection blocks.now }
-    ensures some { result ≡ false → All LeavesCorrection blocks.now → ⊥ }
+    ensures all { IsTrue result → All (λ block. 2 ≤ block.left) blocks.now }
+    ensures some { result ≡ false → All (λ block. 2 ≤ block.left) blocks.now → ⊥ }
 {
     blocks
         .iter()

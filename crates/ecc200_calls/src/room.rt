@@ -132,46 +132,34 @@ impl Room {
 
 /// Does work in a room, which is called with what it names of the room: the rows, codewords, items, marks.
 macro_rules! in_room {
-    ($room:expr, $work:ident::<ROWS, WORDS, ITEMS, MARKS>($($given:expr),* $(,)?)) => {
+    ($room:expr, $work:ident::<$($size:tt),*>$given:tt) => {
         match $room {
-            Room::Small => $work::<SMALL_ROWS, SMALL_WORDS, SMALL_ITEMS, SMALL_MARKS>($($given),*),
-            Room::Fair => $work::<FAIR_ROWS, FAIR_WORDS, FAIR_ITEMS, FAIR_MARKS>($($given),*),
-            Room::Middle => $work::<MIDDLE_ROWS, MIDDLE_WORDS, MIDDLE_ITEMS, MIDDLE_MARKS>($($given),*),
-            Room::Largest => $work::<LARGEST_ROWS, LARGEST_WORDS, LARGEST_ITEMS, LARGEST_MARKS>($($given),*),
-        }
-    };
-    ($room:expr, $work:ident::<ROWS, WORDS>($($given:expr),* $(,)?)) => {
-        match $room {
-            Room::Small => $work::<SMALL_ROWS, SMALL_WORDS>($($given),*),
-            Room::Fair => $work::<FAIR_ROWS, FAIR_WORDS>($($given),*),
-            Room::Middle => $work::<MIDDLE_ROWS, MIDDLE_WORDS>($($given),*),
-            Room::Largest => $work::<LARGEST_ROWS, LARGEST_WORDS>($($given),*),
-        }
-    };
-    ($room:expr, $work:ident::<ITEMS, 0>($($given:expr),* $(,)?)) => {
-        match $room {
-            Room::Small => $work::<SMALL_ITEMS, 0>($($given),*),
-            Room::Fair => $work::<FAIR_ITEMS, 0>($($given),*),
-            Room::Middle => $work::<MIDDLE_ITEMS, 0>($($given),*),
-            Room::Largest => $work::<LARGEST_ITEMS, 0>($($given),*),
-        }
-    };
-    ($room:expr, $work:ident::<ITEMS, MARKS>($($given:expr),* $(,)?)) => {
-        match $room {
-            Room::Small => $work::<SMALL_ITEMS, SMALL_MARKS>($($given),*),
-            Room::Fair => $work::<FAIR_ITEMS, FAIR_MARKS>($($given),*),
-            Room::Middle => $work::<MIDDLE_ITEMS, MIDDLE_MARKS>($($given),*),
-            Room::Largest => $work::<LARGEST_ITEMS, LARGEST_MARKS>($($given),*),
-        }
-    };
-    ($room:expr, $work:ident::<ITEMS>($($given:expr),* $(,)?)) => {
-        match $room {
-            Room::Small => $work::<SMALL_ITEMS>($($given),*),
-            Room::Fair => $work::<FAIR_ITEMS>($($given),*),
-            Room::Middle => $work::<MIDDLE_ITEMS>($($given),*),
-            Room::Largest => $work::<LARGEST_ITEMS>($($given),*),
+            Room::Small => sized!($work[$($size)*]$given, SMALL_ROWS, SMALL_WORDS, SMALL_ITEMS, SMALL_MARKS),
+            Room::Fair => sized!($work[$($size)*]$given, FAIR_ROWS, FAIR_WORDS, FAIR_ITEMS, FAIR_MARKS),
+            Room::Middle => sized!($work[$($size)*]$given, MIDDLE_ROWS, MIDDLE_WORDS, MIDDLE_ITEMS, MIDDLE_MARKS),
+            Room::Largest => sized!($work[$($size)*]$given, LARGEST_ROWS, LARGEST_WORDS, LARGEST_ITEMS, LARGEST_MARKS),
         }
     };
 }
 
+/// Calls work with those of a room's sizes that it names.
+macro_rules! sized {
+    ($work:ident[ROWS WORDS ITEMS MARKS]$given:tt, $rows:ident, $words:ident, $items:ident, $marks:ident) => {
+        $work::<$rows, $words, $items, $marks>$given
+    };
+    ($work:ident[_ ROWS WORDS ITEMS MARKS]$given:tt, $rows:ident, $words:ident, $items:ident, $marks:ident) => {
+        $work::<_, $rows, $words, $items, $marks>$given
+    };
+    ($work:ident[ROWS WORDS]$given:tt, $rows:ident, $words:ident, $items:ident, $marks:ident) => {
+        $work::<$rows, $words>$given
+    };
+    ($work:ident[_ ITEMS MARKS]$given:tt, $rows:ident, $words:ident, $items:ident, $marks:ident) => {
+        $work::<_, $items, $marks>$given
+    };
+    ($work:ident[_ ITEMS 0]$given:tt, $rows:ident, $words:ident, $items:ident, $marks:ident) => {
+        $work::<_, $items, 0>$given
+    };
+}
+
 pub(crate) use in_room;
+pub(crate) use sized;

@@ -1,6 +1,6 @@
 //! Writing.
 
-ghost use Rattle.std.specs.Prelude.{◌≡◌, ◌<◌, ◌≤◌, ◌⊎◌, All, IsTrue, [], false, length};
+ghost use Rattle.std.specs.Prelude.{◌≡◌, ◌<◌, ◌≤◌, ◌⊎◌, All, IsTrue, [], false, length, map};
 ghost use Rattle.dm_words.specs.Heads.{IsHead};
 ghost use Rattle.dm_words.specs.Contents.{AreMarks, ContentView};
 ghost use Rattle.dm_layout.specs.symbols.Sizes.{codeword_count};
@@ -12,7 +12,7 @@ ghost use Rattle.ecc200_calls.specs.inner.Rooms.{IsRoom};
 use crate::fault::Fault;
 use crate::how::{How, Wanted, check_how};
 use crate::mark::{MarkNumbers, NO_MARK, first_wrong, put_marks_of};
-use crate::message::{first_foreign, put_items_of, put_items_of_bytes};
+use crate::message::{ItemNumber, first_foreign, put_items_of};
 use crate::room::*;
 use crate::symbol::{SymbolOut, show_fault, show_symbol};
 use arrayvec::ArrayVec;
@@ -24,11 +24,7 @@ pub fn write(items: &[u16], marks: &[MarkNumbers], how: &How, out: &mut SymbolOu
     ensures out { IsWriteResult items.now marks.now how.now out.old out.new }
     ensures code { result ≡ out.new.fault.code }
 {
-    match check_how(*how) {
-        Ok(wanted) => write_wanted(items, marks, wanted, out),
-        Err(why) => show_fault(out, why),
-    }
-    out.fault.code
+    write_by(items, marks, how, out)
 }
 
 /// Writes the symbol of the content of these bytes, each of which is an item: what [`write()`] does for the same
@@ -37,33 +33,59 @@ pub fn write_bytes(bytes: &[u8], how: &How, out: &mut SymbolOut) -> u16
     ensures out { IsWriteResult bytes.now [] how.now out.old out.new }
     ensures code { result ≡ out.new.fault.code }
 {
+    write_by(bytes, &[], how, out)
+}
+
+/// Does so for numbers of any kind.
+fn write_by<N: ItemNumber>(
+    items: &[N],
+    marks: &[MarkNumbers],
+    how: &How,
+    out: &mut SymbolOut,
+) -> u16
+    ensures out { IsWriteResult (map N.number items.now) marks.now how.now out.old out.new }
+    ensures code { result ≡ out.new.fault.code }
+{
     match check_how(*how) {
-        Ok(wanted) => write_wanted_bytes(bytes, wanted, out),
+        Ok(wanted) => write_wanted(items, marks, wanted, out),
         Err(why) => show_fault(out, why),
     }
     out.fault.code
 }
 
 /// Shows the symbol of the content of these numbers, or why there is none.
-fn write_wanted(items: &[u16], marks: &[MarkNumbers], wanted: Wanted, out: &mut SymbolOut)
+fn write_wanted<N: ItemNumber>(
+    items: &[N],
+    marks: &[MarkNumbers],
+    wanted: Wanted,
+    out: &mut SymbolOut,
+)
     requires { IsHead wanted.head }
-    ensures { IsWritingGiven wanted.form wanted.size wanted.head items.now
+    ensures { IsWritingGiven wanted.form wanted.size wanted.head (map N.number items.now)
         marks.now out.old out.new }
 {
     match first_foreign(items) {
         Some(place) => show_fault(
             out,
-            Fault::foreign(items[place], place.min(usize::from(u16::MAX)) as u16),
+            Fault::foreign(
+                items[place].number(),
+                place.min(usize::from(u16::MAX)) as u16,
+            ),
         ),
         None => write_items(items, marks, wanted, out),
     }
 }
 
 /// Does so where each number stands for an item.
-fn write_items(items: &[u16], marks: &[MarkNumbers], wanted: Wanted, out: &mut SymbolOut)
+fn write_items<N: ItemNumber>(
+    items: &[N],
+    marks: &[MarkNumbers],
+    wanted: Wanted,
+    out: &mut SymbolOut,
+)
     requires head { IsHead wanted.head }
-    requires items { All (λ item. item ≤ 256) items.now }
-    ensures { IsWritingGiven wanted.form wanted.size wanted.head items.now
+    requires items { All (λ item. item ≤ 256) (map N.number items.now) }
+    ensures { IsWritingGiven wanted.form wanted.size wanted.head (map N.number items.now)
         marks.now out.old out.new }
 {
     match first_wrong(items.len(), marks) {
@@ -76,12 +98,17 @@ fn write_items(items: &[u16], marks: &[MarkNumbers], wanted: Wanted, out: &mut S
 }
 
 /// Does so where the marks are right too. A content with more items or marks than any symbol says fits no size.
-fn write_numbers(items: &[u16], marks: &[MarkNumbers], wanted: Wanted, out: &mut SymbolOut)
+fn write_numbers<N: ItemNumber>(
+    items: &[N],
+    marks: &[MarkNumbers],
+    wanted: Wanted,
+    out: &mut SymbolOut,
+)
     requires head { IsHead wanted.head }
-    requires items { All (λ item. item ≤ 256) items.now }
+    requires items { All (λ item. item ≤ 256) (map N.number items.now) }
     requires marks { AreMarks 0 (length items.now) (marks_of marks.now) }
-    ensures { IsWritingGiven wanted.form wanted.size wanted.head items.now marks.now out.old
-        out.new }
+    ensures { IsWritingGiven wanted.form wanted.size wanted.head (map N.number items.now) marks.now
+        out.old out.new }
 {
     let Wanted { form, size, head } = wanted;
     let how = WriteOptions { form, size };
@@ -90,12 +117,12 @@ fn write_numbers(items: &[u16], marks: &[MarkNumbers], wanted: Wanted, out: &mut
     } else if marks.is_empty() {
         in_room!(
             Room::of_items(items.len()),
-            write_content_of_numbers::<ITEMS, 0>(items, marks, how, head, out)
+            write_content_of::<_, ITEMS, 0>(items, marks, how, head, out)
         );
     } else {
         in_room!(
             Room::of_counts(items.len(), marks.len()),
-            write_content_of_numbers::<ITEMS, MARKS>(items, marks, how, head, out)
+            write_content_of::<_, ITEMS, MARKS>(items, marks, how, head, out)
         );
     }
 }
@@ -108,41 +135,24 @@ fn may_be_said(items: usize, marks: usize) -> bool
     items <= LARGEST_ITEMS && marks <= LARGEST_MARKS
 }
 
-/// Shows the symbol of the content of these bytes, or why there is none, as for numbers.
-fn write_wanted_bytes(bytes: &[u8], wanted: Wanted, out: &mut SymbolOut)
-    requires { IsHead wanted.head }
-    ensures { IsWritingGiven wanted.form wanted.size wanted.head bytes.now [] out.old out.new }
-{
-    let Wanted { form, size, head } = wanted;
-    let how = WriteOptions { form, size };
-    if bytes.len() > LARGEST_ITEMS {
-        show_fault(out, Fault::too_long());
-    } else {
-        in_room!(
-            Room::of_items(bytes.len()),
-            write_content_of_bytes::<ITEMS>(bytes, how, head, out)
-        );
-    }
-}
-
 /// Shows the symbol of the content of these numbers, or that it fits no size of the choice, in a room that serves for
 /// the content. It stands by itself, so that no other room is left for it on the stack.
 #[inline(never)]
-fn write_content_of_numbers<const ITEMS: usize, const MARKS: usize>(
-    items: &[u16],
+fn write_content_of<N: ItemNumber, const ITEMS: usize, const MARKS: usize>(
+    items: &[N],
     marks: &[MarkNumbers],
     how: WriteOptions,
     head: Option<Head>,
     out: &mut SymbolOut,
 )
     requires head { IsHead head }
-    requires items { All (λ item. item ≤ 256) items.now }
+    requires items { All (λ item. item ≤ 256) (map N.number items.now) }
     requires room { length items.now ≤ ITEMS }
     requires most { ITEMS ≤ LARGEST_ITEMS }
     requires marks { AreMarks 0 (length items.now) (marks_of marks.now) }
     requires mark_room { length marks.now ≤ MARKS }
     requires few_marks { MARKS ≤ LARGEST_MARKS }
-    ensures { IsWritingGiven how.form how.size head items.now marks.now out.old
+    ensures { IsWritingGiven how.form how.size head (map N.number items.now) marks.now out.old
         out.new }
 {
     let mut all_items = [Item::Fnc1; ITEMS];
@@ -151,24 +161,6 @@ fn write_content_of_numbers<const ITEMS: usize, const MARKS: usize>(
     put_marks_of(&mut all_marks, marks, items.len());
     let (items, marks) = (&all_items[..items.len()], &all_marks[..marks.len()]);
     write_content(head, items, marks, how, out);
-}
-
-/// Shows the symbol of the content of these bytes, likewise.
-#[inline(never)]
-fn write_content_of_bytes<const ITEMS: usize>(
-    bytes: &[u8],
-    how: WriteOptions,
-    head: Option<Head>,
-    out: &mut SymbolOut,
-)
-    requires head { IsHead head }
-    requires room { length bytes.now ≤ ITEMS }
-    requires most { ITEMS ≤ LARGEST_ITEMS }
-    ensures { IsWritingGiven how.form how.size head bytes.now [] out.old out.new }
-{
-    let mut all = [Item::Fnc1; ITEMS];
-    put_items_of_bytes(&mut all, bytes);
-    write_content(head, &all[..bytes.len()], &[], how, out);
 }
 
 /// Shows the symbol in which a content is written, or that it fits no size of the choice, in a room that serves for it.

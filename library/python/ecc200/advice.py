@@ -9,7 +9,7 @@ from typing import Callable, Iterable, List, NamedTuple, Optional, Tuple
 from . import core
 from .core import BorderLimit, Code, Extent, Reading, Refused, Rows, Shape, Size
 
-__all__ = ["Righted", "bytes_in", "in_words", "reduced", "righted", "sizes_of", "why_not_written"]
+__all__ = ["ANEW", "NEARER", "Righted", "bytes_in", "in_words", "reduced", "righted", "sizes_of", "why_not_written"]
 
 _BEGINS = {
     233: "a part of a message that several symbols hold (structured append)",
@@ -23,7 +23,8 @@ _WITHOUT_USUAL = "isn't read with --usual: leave out --usual"
 _DAMAGE = ("a codeword that no encoder writes there, so the symbol comes from a faulty encoder or was damaged into the "
            "codewords of another message")
 
-_ANEW = "scan it again, from nearer, in even light and flat, or print it anew"
+NEARER = "Take it from nearer, in even light and flat"
+ANEW = "scan it again, from nearer, in even light and flat, or print it anew"
 
 
 def _border(why: Refused, rows: Rows, extent: Extent, doubtful: Optional[Rows]) -> str:
@@ -34,7 +35,7 @@ def _border(why: Refused, rows: Rows, extent: Extent, doubtful: Optional[Rows]) 
         accept = "; --border auto accepts them, since each block has a correction left"
     elif _reading(rows, why.value, extent, doubtful) is not None:
         accept = f"; --border {why.value} accepts them, though some block has no correction left"
-    return (f"{why.value} of the {count} modules of its border have the wrong colour{accept}. The left "
+    return (f"{why.value} of the {count} modules of its border have the wrong colour: {ANEW}{accept}. The left "
             "column and the bottom row must be dark, the top row and the right column alternate")
 
 
@@ -43,8 +44,8 @@ def _block(why: Refused, rows: Rows, has_doubts: bool) -> str:
     block = f"block {why.place + 1} of its {size.blocks}"
     if has_doubts:
         return (f"{block} can't be restored: a wrong codeword takes two of its {size.check_codewords // size.blocks} "
-                f"check codewords, and one with a doubtful module takes one. {_ANEW.capitalize()}")
-    return (f"{block} has more than {size.limit} wrong codewords, the most that can be corrected: {_ANEW}. "
+                f"check codewords, and one with a doubtful module takes one. {ANEW.capitalize()}")
+    return (f"{block} has more than {size.limit} wrong codewords, the most that can be corrected: {ANEW}. "
             "Where the modules are known that may be wrong, --doubtful restores twice as many")
 
 

@@ -1215,18 +1215,24 @@ _Item = TypeVar("_Item")
 
 
 class Findings(List[_Item]):
-    """A list of what was found, which says why the search ended."""
+    """A list of what was found, which says why the search ended, and where nothing is read on a page, which code of
+    another kind it shows, as "a QR code", if one is clear."""
     ended: End = End.WHOLE
+    other: Optional[str] = None
 
     @property
     def complete(self) -> bool:
         """Whether all of the picture was searched; else there may be more."""
         return self.ended == End.WHOLE
 
-    def add(self, some: Iterable[_Item], ended: End) -> None:
+    def add(self, some: Iterable[_Item], page: "Findings[Any]") -> None:
         """Adds what was found on another page."""
         self.extend(some)
-        self.ended = max(self.ended, ended)
+        self.tell(page)
+
+    def tell(self, page: "Findings[Any]") -> None:
+        """Says of the search of another page what that says."""
+        self.ended, self.other = max(self.ended, page.ended), self.other or page.other
 
 
 class _Sample(ctypes.Structure):
@@ -1271,13 +1277,15 @@ class _Asked(NamedTuple):
 @functools.lru_cache(maxsize=None)
 def _sampler() -> ctypes.CDLL:
     library = _opened("ecc200_sample", _SAMPLE_ABI, SamplerMissing)
-    if not hasattr(library, "ecc200_sample_measure"):
+    if not hasattr(library, "ecc200_sample_other_code"):
         raise SamplerMissing("the library ecc200_sample is older than this module", path=library._name)
     size = ctypes.c_size_t
     library.ecc200_sample_find.argtypes = [ctypes.c_char_p, size, size, size, ctypes.c_void_p]
     library.ecc200_sample_find.restype = _u16
     library.ecc200_sample_measure.argtypes = [ctypes.c_char_p, size, size, size, ctypes.c_void_p, ctypes.c_void_p]
     library.ecc200_sample_measure.restype = _u16
+    library.ecc200_sample_other_code.argtypes = [ctypes.c_char_p, size, size, size, ctypes.c_void_p]
+    library.ecc200_sample_other_code.restype = ctypes.c_char_p
     return library
 
 
@@ -1479,6 +1487,29 @@ def _found(sample: Any, page: int) -> Found:
                  doubtful if any(map(any, doubtful)) else None, sample.border_limit)
 
 
+def _is_inside(corners: Corners, place: Tuple[float, float]) -> bool:
+    """Whether a place lies within corners, which go around it one way or the other."""
+    x, y = place
+    turns = [(right - left) * (y - top) > (down - top) * (x - left)
+             for (left, top), (right, down) in zip(corners, corners[1:] + corners[:1])]
+    return len(set(turns)) == 1
+
+
+def _beside_other(symbols: List[Found], pixels: bytes, width: int, height: int) -> Findings[Found]:
+    """What isn't read of a picture in which nothing is, but for what has its middle or a corner in a code of another
+    kind, and which that is."""
+    corners = (ctypes.c_double * 8)()
+    name = _sampler().ecc200_sample_other_code(pixels, width, height, width, corners)
+    if name is None:
+        return Findings(symbols)
+    around = tuple(zip(corners[::2], corners[1::2]))
+    places = [(*symbol.corners, tuple(sum(values) / 4 for values in zip(*symbol.corners))) for symbol in symbols]
+    found = Findings(symbol for symbol, own in zip(symbols, places)
+                     if not any(_is_inside(around, (x, y)) for x, y in own))
+    found.other = name.decode("ascii")
+    return found
+
+
 def _searched(picture: Any, page: int, asked: _Asked) -> Findings[Found]:
     """The symbols of one page of a picture, and behind them those that aren't read, the likeliest first."""
     pixels, width, height = luminance(picture)
@@ -1498,7 +1529,7 @@ def _searched(picture: Any, page: int, asked: _Asked) -> Findings[Found]:
     if asked.quality:
         measured = (_measured(sample, pixels, width, height) for sample in kept)
         symbols = [symbol._replace(quality=quality) for symbol, quality in zip(symbols, measured)]
-    found: Findings[Found] = Findings(symbols)
+    found = Findings(symbols) if search.count else _beside_other(symbols, pixels, width, height)
     found.ended = End(search.ended)
     return found
 
@@ -1534,7 +1565,7 @@ def find(picture: Any, most: int = _MOST_FOUND, milliseconds: Optional[int] = No
     broken: List[str] = []
     for number, page in _pages(given, broken):
         symbols = _searched(page, number, asked)
-        found.add(symbols, symbols.ended)
+        found.add(symbols, symbols)
     _tell_broken(broken, any(isinstance(symbol.answer, Reading) for symbol in found))
     return found
 
@@ -1544,7 +1575,7 @@ def _of_page(page: Any, number: int, asked: _Asked, border_limit: BorderLimit,
     """What the symbols of a picture say: those that are found, or else the one whose modules the pixels are."""
     found = _searched(page, number, asked) if has_sampler() else Findings()
     answers: Findings[Union[Reading, Refused]] = Findings()
-    answers.add((symbol.answer for symbol in found), found.ended)
+    answers.add((symbol.answer for symbol in found), found)
     if not _only_read(answers):
         spelled = _spelled(page, border_limit, extent)
         if _only_read(spelled) or asked.unread and not answers and _has_border(spelled):
@@ -1619,7 +1650,7 @@ def decode(picture: Any, most: int = _MOST_FOUND, milliseconds: Optional[int] = 
     broken: List[str] = []
     for number, page in _pages(given, broken):
         of_page = _of_page(page, number, asked, border_limit, extent)
-        answers.add(of_page, of_page.ended)
+        answers.add(of_page, of_page)
     _tell_broken(broken, bool(_only_read(answers)))
     if not _only_read(answers):
         _sampler()
@@ -1631,5 +1662,5 @@ def _kept(answers: Findings[Union[Reading, Refused]], unread: bool) -> Findings[
     if unread:
         return answers
     readings: Findings[Any] = Findings(_only_read(answers))
-    readings.ended = answers.ended
+    readings.tell(answers)
     return readings

@@ -6,7 +6,7 @@ import sys
 from typing import TYPE_CHECKING, Any, Dict, Iterator, List, NamedTuple, Optional, Tuple, Union
 
 from . import core, explaining, gs1
-from .advice import bytes_in, in_words, righted, sizes_of, why_not_written
+from .advice import ANEW, bytes_in, in_words, righted, sizes_of, why_not_written
 from .core import FNC1, Code, Head, Reading, Refused, Rows, Shape, Unsure, text_of, usual_limit
 from .joining import Joined
 from .labels import Label, Output, printed
@@ -24,6 +24,7 @@ __all__ = ["Answer", "answers", "check", "compare", "complain", "explain", "json
 
 _NO = "\\no"  # stands for what a grid of a text says that isn't read, as dm_tool has it
 _EARLY = 3  # the status where a search ended early
+_OTHERS = "Other codes, as QR codes, aren't read"
 _NO_GS1 = "isn't: no FNC1 stands in front, which write --gs1 puts there"
 _OTHER_DEALING = "check codewords dealt into blocks from the first one, as libdmtx deals them"
 
@@ -55,7 +56,8 @@ def _refusal(source: Source, rows: Rows, why: Refused, given: argparse.Namespace
         return Answer(source, None, rows, _unsure(why, given.margin), why, doubtful=doubtful)
     fault = in_words(why, rows, given.extent, doubtful)
     if source.found and why.code in (Code.BORDER, Code.BLOCK) and not given.unread:
-        fault = f"what looks most like a symbol isn't read: {fault}. Other codes, as QR codes, aren't read at all"
+        beside = f"Beside it is {source.other}, which isn't one" if source.other else _OTHERS
+        fault = f"what looks most like a symbol isn't read: {fault}. {beside}"
     if hint is not None:
         fault = f"it {hint.how}; --any-way reads it so" + ("" if Code.SIZE >= why.code else f" (as it stands, {fault})")
     return Answer(source, None, rows, "; ".join(filter(None, (fault, source.fault))), why, doubtful=doubtful)
@@ -65,7 +67,7 @@ def _unsure(why: Unsure, margin: int) -> str:
     """What a symbol may say, and why that isn't sure."""
     left = (f"fewer than {margin} corrections" if margin
             else "no correction, while its border is damaged or modules are doubtful")
-    return f"it may say {_line(why.reading)}, but its blocks leave {left}"
+    return f"it may say {_line(why.reading)}, but its blocks leave {left}: {ANEW}"
 
 
 def _answer(source: Source, given: argparse.Namespace, doubtful: Optional[Rows]) -> Answer:

@@ -8,10 +8,10 @@ import os
 import re
 import stat
 import sys
-from typing import Any, BinaryIO, Deque, Iterable, Iterator, List, NamedTuple, Optional, Union
+from typing import Any, BinaryIO, Deque, Iterable, Iterator, List, NamedTuple, Optional, Tuple, Union
 
 from . import core, pictures
-from .advice import reduced
+from .advice import NEARER, reduced
 from .core import Rows
 
 __all__ = ["Search", "Source", "Trouble", "Unreadable", "doubts", "known_charset", "of_picture", "of_text",
@@ -60,6 +60,7 @@ class Source(NamedTuple):
     is_complete: bool = True               # whether all of its picture's page was searched that was to be
     is_end: bool = False                   # whether it only says that the search ended early
     is_text: bool = False                  # whether it is the record of a text
+    other: Optional[str] = None            # which code of another kind its picture's page shows, where nothing is read
 
 
 class Search(NamedTuple):
@@ -193,37 +194,39 @@ def _has_margin(source: Source, margin: int) -> bool:
     return core._size_of(*reading.size).limit - max(reading.corrected) >= margin
 
 
-def _of_page(name: str, page: Any, number: int, search: Search) -> List[Source]:
+def _of_page(name: str, page: Any, number: int, search: Search) -> Tuple[List[Source], Optional[str]]:
     """The symbols of a page, those that are read first. Where the sampler can't be used or reads none, the one that the
     pixels spell module by module; or else the likeliest that isn't read, and all of these if they are wanted. Behind
-    them, whether the search ended early."""
+    them, whether the search ended early. And where none is read, which code of another kind there is."""
     fault = core.sampler_fault()
     found = core._searched(page, number, search.asked()) if fault is None else core.Findings[pictures.Found]()
     read = [symbol for symbol in found if isinstance(symbol.answer, core.Reading)]
     if not read:
         spelled = _of_modules(name, page, "" if fault is None else f"{fault}; {_WITHOUT}")
         if _has_margin(spelled, search.margin) and (fault is not None or _is_symbol(spelled)):
-            return [spelled]
+            return [spelled], None
     is_complete = not search.is_early(found.ended, len(read))
     shown = found if search.unread or not read else read
     kept = [symbol for symbol in shown if search.most is not None or symbol not in read[1:]]
-    sources = [Source(name, 1, symbol.rows, "", symbol, is_complete) for symbol in kept]
+    sources = [Source(name, 1, symbol.rows, "", symbol, is_complete, other=found.other) for symbol in kept]
     if not is_complete:
         where = "" if number == 1 else f"page {number}: "
         sources.append(Source(name, 0, None, where + search.in_words(found.ended, len(read)), None, False, True))
-    return sources
+    return sources, found.other
 
 
 def of_picture(name: str, data: bytes, search: Search) -> Iterator[Source]:
     """The symbols of a picture, page by page."""
     picture, count, ends = _picture(data), 0, []  # type: Any, int, List[Source]
     broken: List[str] = []
+    others: List[str] = []
     for number, page in core._pages(picture, broken):
         try:
-            found = _of_page(name, page, number, search)
+            found, other = _of_page(name, page, number, search)
         except Exception as why:  # as there is no memory for it
             broken.append(f"page {number} of the picture can't be searched ({why_not(why)})")
             continue
+        others += [other] if other else []
         for source in found:
             if source.is_end:
                 ends.append(source)
@@ -238,9 +241,10 @@ def of_picture(name: str, data: bytes, search: Search) -> Iterator[Source]:
     margin = search.margin
     passed = f"; those that leave fewer than {margin} corrections are passed over" if margin else ""
     within = f" by a search that ended after {search.allowed}" if ends else ""
+    other = f"but {others[0]}, which isn't one" if others else "and other codes, as QR codes, aren't read"
     yield Source(name, 1, None, f"no Data Matrix symbol was found in its {picture.width} by {picture.height} pixels"
-                 f"{within}; other codes, as QR codes, aren't read. A module should have at least two pixels, and the "
-                 "symbol a light margin. --time allows a longer search" + passed, is_complete=not ends)
+                 f"{within}, {other}. {NEARER}: a module should have at least two pixels, and the symbol a light "
+                 "margin. --time allows a longer search" + passed, is_complete=not ends)
 
 
 # ---- Files and folders

@@ -3,7 +3,9 @@ use Rattle.dm_layout.proofs.Names.{nat_tests, ◌≡◌, ◌≢◌, ℕ, ◌+◌
 use Rattle.dm_layout.proofs.Names.{take, sym, ◌∙◌, ap, subst, arith, below_more, get_or-set_other, get_or-set_same}
 use Rattle.dm_layout.proofs.Names.{length-take, range_with_len, mod-mul-add, same_number_lists, mul-le-mul_right}
 use Rattle.dm_layout.proofs.Names.{get_or-take, SizeEntry, count_in_block, block_data, codeword_count, WordsView}
-use Rattle.dm_layout.proofs.Names.{IsWords, block_of}
+use Rattle.dm_layout.proofs.Names.{IsWords, AreOfSize, block_of}
+use Rattle.std.proofs.Math.ListN.{length-set}
+use Rattle.std.proofs.lemmas.List.Elements.{All-set}
 use Rattle.dm_layout.specs.symbols.Sizes.{block_length}
 use Rattle.dm_layout.specs.symbols.Words.{data_of}
 use Rattle.dm_layout.specs.symbols.Blocks.{HasLengths}
@@ -71,6 +73,15 @@ next_inside w v B b k list words same eb lb count lk =
     let long : length list ≡ block_length v.size b = count ∙ ap (λ (s : SizeEntry). block_length s b) (sym same) in
     let inside = place_inside v b k words (omega (arith, eb, en, lb)) (subst (λ (n : ℕ). k < n) long lk) in
     subst (λ (n : ℕ). k * n + b < length v.list) (sym en) inside
+
+-- Where one codeword is put, there are as many of the size as before.
+pub one_of_size : (size : SizeEntry) (words : List ℕ) (place word : ℕ) → word < 256 → AreOfSize size words
+    → AreOfSize size (set words place word)
+one_of_size size words place word small h = record {
+  size = h.size;
+  count = length-set words place word ∙ h.count;
+  bytes = All-set (λ (w : ℕ). w < 256) words place word small h.bytes;
+}
 
 -- Once one more codeword of a block is put, it and those before it stand at their places.
 pub put_one : (B b i : ℕ) (ws list : List ℕ) → b < B → i * B + b < length ws →

@@ -11,8 +11,6 @@ pub use Rattle.dm_layout.proofs.symbols.CellLanes.{cut_cell, sixteen_shown}
 pub use Rattle.dm_layout.proofs.symbols.DealtWords.{blocks_make_words}
 pub use Rattle.dm_layout.proofs.symbols.EqualityLaws.{equal_itself, told_modules}
 pub use Rattle.dm_layout.proofs.symbols.FaultCounts.{count_more, sum_more}
-pub use Rattle.dm_layout.proofs.symbols.KeptWords.{kept_for, one_kept, part_kept, prefix_kept, words_of_kept}
-pub use Rattle.dm_layout.proofs.symbols.KeptWords.{zeros_behind, zeros_kept}
 pub use Rattle.dm_layout.proofs.symbols.LaidModules.{one_held, one_laid, some_held, some_laid}
 pub use Rattle.dm_layout.proofs.symbols.Matrices.{placed_size}
 pub use Rattle.dm_layout.proofs.symbols.ModulesLemmas.{module_by, modules_by, same_modules, same_rows_by}

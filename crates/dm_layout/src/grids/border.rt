@@ -11,5 +11,5 @@ use crate::grids::grid::Grid;
 pub fn border_faults(grid: &Grid) -> u16
     ensures { result ≡ border_fault_count grid.now }
 {
-    crate::symbols::border_faults(&grid.symbol, None)
+    crate::symbols::border_faults(&grid.symbol.borrowed(), None)
 }

@@ -150,6 +150,23 @@ impl Grid {
     }
 }
 
+// The smallest grid with all cells light, into which others can be put.
+impl Default for Grid {
+    ghost use Rattle.std.specs.Prelude.{◌≡◌, Some, replicate};
+    ghost use Rattle.dm_layout.specs.Sizes.{row_with_side};
+    ghost use Rattle.dm_layout.specs.Grid.{square_of_rows};
+
+    ghost is_default = { λ grid. (row_with_side 10 ≡ Some grid.size)
+        × (grid.rows ≡ square_of_rows 10 (replicate 10 0)) };
+
+    fn default() -> Grid {
+        match Grid::of_rows(10, &[0; 10]) {
+            Ok(grid) => grid,
+            Err(_) => unreachable!(),
+        }
+    }
+}
+
 /// Gives the size of the square that these rows make, or why they make none.
 fn size_of_square(side: u16, rows: &[u128]) -> Result<Size, GridFault>
     ensures not_square { (result ≡ Err GridFault.NotSquare) ↔ (length rows.now ≢ side) }

@@ -47,7 +47,7 @@ pub fn lift(grid: &Grid) -> Words
     ensures holds { Holds grid.now result }
     ensures no_other_words { (other : WordsView) → Holds grid.now other → other ≡ result }
 {
-    let mut words = Words::zeros(grid.size());
-    crate::symbols::lift_to(&grid.symbol, &mut words.symbol);
-    words
+    Words {
+        symbol: crate::symbols::lift(&grid.symbol),
+    }
 }

@@ -1,6 +1,6 @@
 //! The codewords of a square.
 
-ghost use Rattle.std.specs.Prelude.{◌≡◌, length, replicate};
+ghost use Rattle.std.specs.Prelude.{◌≡◌, length};
 ghost use Rattle.dm_layout.specs.Sizes.{codeword_count};
 ghost use Rattle.dm_layout.specs.Words.{IsWords, data_of};
 
@@ -39,20 +39,6 @@ impl Words {
         let _checks = size.check_count();
         Words {
             symbol: SymbolWordsIn::new(size.symbol(), list),
-        }
-    }
-
-    /// Gives codewords of this size that are all 0.
-    #[inline]
-    pub(crate) fn zeros(size: Size) -> Words
-        ensures value { result
-            ≡ record { size = size; list = replicate (codeword_count size) 0 } }
-        ensures words { IsWords result }
-    {
-        // For the proof alone: what `check_count` ensures says that the codewords fit.
-        let _checks = size.check_count();
-        Words {
-            symbol: SymbolWordsIn::zeros(size.symbol()),
         }
     }
 

@@ -7,9 +7,9 @@ ghost use Rattle.dm_place.specs.Border.{symbol_line};
 ghost use Rattle.dm_layout.specs.symbols.Border.{border_colour as border_colour_by};
 ghost use Rattle.dm_layout.specs.symbols.SureFaults.{sure_fault_count};
 
+use crate::symbols::borrowed::BorrowedSymbol;
 use crate::symbols::faults::{NoDoubt, faults_but};
 use crate::symbols::size::SymbolSize;
-use crate::symbols::symbol::SymbolIn;
 
 /// Gives the prescribed colour of a module in a border, true for dark; None for a module in no border. Row and column
 /// count from 0, from the top and from the left; beyond those of the size the pattern goes on. The left column and the
@@ -59,15 +59,12 @@ pub fn symbol_column(size: SymbolSize, line: u16) -> u16
 
 /// Gives how many modules of the borders have another colour than [`border_colour()`] prescribes. Where doubtful
 /// modules are given, a symbol of the same size that is dark where a module is doubtful, those of them aren't counted.
-pub fn border_faults<const ROWS: usize>(
-    symbol: &SymbolIn<ROWS>,
-    doubtful: Option<&SymbolIn<ROWS>>,
-) -> u16
+pub fn border_faults(symbol: &BorrowedSymbol, doubtful: Option<&BorrowedSymbol>) -> u16
     requires { IfSome doubtful (λ doubtful. doubtful.now.size ≡ symbol.now.size) }
     ensures { result ≡ sure_fault_count symbol.now (option_map (λ d. d.now) doubtful.entry) }
 {
     match doubtful {
-        Some(doubtful) => faults_but(&symbol.borrowed(), &doubtful.borrowed()),
-        None => faults_but(&symbol.borrowed(), &NoDoubt),
+        Some(doubtful) => faults_but(symbol, doubtful),
+        None => faults_but(symbol, &NoDoubt),
     }
 }

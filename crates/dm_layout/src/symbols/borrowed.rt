@@ -9,7 +9,7 @@ use std::marker::Model;
 /// The modules of a symbol, borrowed from one that has room for any number of rows: what works on this is compiled
 /// once, and not for each room. In contracts it is a `SymbolView` of `specs/symbols/Symbols.antt`.
 #[derive(Drop)]
-pub(crate) struct BorrowedSymbol<'a> {
+pub struct BorrowedSymbol<'a> {
     pub(crate) size: SymbolSize,
     pub(crate) rows: &'a [u128],
     pub(crate) ends: &'a [u16],
@@ -30,7 +30,7 @@ impl<'a> Model for BorrowedSymbol<'a> {
 impl<'a> BorrowedSymbol<'a> {
     /// Gives the size of the symbol.
     #[inline(always)]
-    pub(crate) fn size(&self) -> SymbolSize
+    pub fn size(&self) -> SymbolSize
         ensures value { result ≡ self.now.size }
         ensures modules { IsSymbol self.now }
     {

@@ -2,10 +2,12 @@
 //!
 //! The work is done in rows of bits of one of three widths, which [`lift_list()`] chooses.
 
-ghost use Rattle.std.specs.Prelude.{◌≡◌, ◌<◌, ◌≤◌, All, length};
+ghost use Rattle.std.specs.Prelude.{◌≡◌, length};
 ghost use Rattle.dm_place.specs.Holding.{HoldsBits};
 ghost use Rattle.dm_layout.specs.symbols.Border.{mapped_cell};
 ghost use Rattle.dm_layout.specs.symbols.Sizes.{codeword_count, mapping_rows, mapping_columns};
+ghost use Rattle.dm_layout.specs.symbols.Symbols.{IsSymbol};
+ghost use Rattle.dm_layout.specs.symbols.Words.{AreOfSize};
 ghost use Rattle.dm_layout.specs.symbols.inner.Slots.{most_of, bytes_of};
 
 use crate::symbols::bit_rows::BitRows;
@@ -19,8 +21,8 @@ use crate::symbols::widened::widen;
 /// Turns `words`, as many as the symbol has, into the codewords that it holds.
 pub(crate) fn lift_list(symbol: &BorrowedSymbol, words: &mut [u8])
     requires { length words.old ≡ codeword_count symbol.now.size }
-    ensures count { length words.new ≡ length words.old }
-    ensures bytes { All (λ word. word < 256) words.new }
+    ensures modules { IsSymbol symbol.now }
+    ensures words { AreOfSize symbol.now.size words.new }
     ensures holds { HoldsBits (mapping_rows symbol.now.size) (mapping_columns symbol.now.size)
         (mapped_cell symbol.now) words.new }
 {

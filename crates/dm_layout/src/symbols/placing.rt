@@ -6,11 +6,13 @@ ghost use Rattle.dm_layout.specs.symbols.inner.Keeping.{kept_symbol};
 ghost use Rattle.dm_layout.specs.symbols.inner.Slots.{most_of, bytes_of};
 ghost use Rattle.dm_layout.specs.symbols.Border.{HasFixedSquare, border_fault_count};
 ghost use Rattle.dm_layout.specs.symbols.Symbols.{SymbolView};
-ghost use Rattle.dm_layout.specs.symbols.Words.{WordsView, IsWords};
+ghost use Rattle.dm_layout.specs.symbols.Words.{WordsView, IsWords, first_words, words_with};
 ghost use Rattle.dm_layout.specs.symbols.Holding.{Holds, IsLaid};
 
 use crate::symbols::bit_rows::BitRows;
+use crate::symbols::borrowed::BorrowedSymbol;
 use crate::symbols::drawing::{draw, put_fixed_square};
+use crate::symbols::lifting::lift_list;
 use crate::symbols::mapping::paint;
 use crate::symbols::narrow_rows::{NARROW_MATRIX, NarrowRows};
 use crate::symbols::pair_rows::PairRows;
@@ -82,20 +84,29 @@ pub fn lift<const ROWS: usize, const ROOM: usize>(symbol: &SymbolIn<ROWS>) -> Sy
     ensures holds { Holds symbol.now result }
     ensures no_other_words { (other : WordsView) → Holds symbol.now other → other ≡ result }
 {
-    let mut words = SymbolWordsIn::zeros(symbol.size());
-    lift_to(symbol, &mut words);
+    let size = symbol.size();
+    let mut words = SymbolWordsIn::zeros(size);
+    lift_in(&symbol.borrowed(), words.resize(size));
     words
 }
 
-/// Turns `words`, whatever they were, into the codewords that the symbol holds; the same as [`lift()`], for callers
-/// that keep one list of codewords for many symbols.
-pub fn lift_to<const ROWS: usize, const ROOM: usize>(
-    symbol: &SymbolIn<ROWS>,
-    words: &mut SymbolWordsIn<ROOM>,
-)
-    requires { codeword_count symbol.now.size ≤ ROOM }
-    ensures holds { Holds symbol.now words.new }
-    ensures no_other_words { (other : WordsView) → Holds symbol.now other → other ≡ words.new }
+/// Puts them at the start of `room`.
+fn lift_in(symbol: &BorrowedSymbol, room: &mut [u8])
+    requires { codeword_count symbol.now.size ≤ length room.old }
+    ensures { Holds symbol.now (first_words symbol.now.size room.new) }
 {
-    words.lift_from(symbol);
+    let size = symbol.size();
+    let count = usize::from(size.data_count() + size.check_count());
+    lift_to(symbol, &mut room[..count]);
+}
+
+/// Turns `words`, as many as the symbol has, into the codewords that it holds; the same as [`lift()`], for callers that
+/// keep one list of codewords for many symbols.
+pub fn lift_to(symbol: &BorrowedSymbol, words: &mut [u8])
+    requires { length words.old ≡ codeword_count symbol.now.size }
+    ensures holds { Holds symbol.now (words_with symbol.now.size words.new) }
+    ensures no_other_words { (other : WordsView) → Holds symbol.now other
+        → other ≡ words_with symbol.now.size words.new }
+{
+    lift_list(symbol, words);
 }

@@ -84,7 +84,7 @@ impl<const ROWS: usize> SymbolIn<ROWS> {
 
     /// Gives the symbol for work that is the same for all rooms.
     #[inline(always)]
-    pub(crate) fn borrowed(&self) -> BorrowedSymbol<'_>
+    pub fn borrowed(&self) -> BorrowedSymbol<'_>
         ensures { result ≡ self.now }
     {
         BorrowedSymbol {

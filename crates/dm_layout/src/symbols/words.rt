@@ -1,15 +1,13 @@
 //! The codewords of a symbol.
 
-ghost use Rattle.std.specs.Prelude.{◌≡◌, ◌<◌, ◌≤◌, ◌++◌, drop, length, replicate, set};
-ghost use Rattle.dm_place.specs.Holding.{HoldsBits};
-ghost use Rattle.dm_layout.specs.symbols.Border.{mapped_cell};
-ghost use Rattle.dm_layout.specs.symbols.Symbols.{IsSymbol};
-ghost use Rattle.dm_layout.specs.symbols.Sizes.{codeword_count, mapping_rows, mapping_columns};
-ghost use Rattle.dm_layout.specs.symbols.Words.{WordsView, IsWords, data_of};
+ghost use Rattle.std.specs.Prelude.{◌≡◌, ◌<◌, ◌≤◌, length, replicate};
+ghost use Rattle.std.specs.List.{All};
+ghost use Rattle.std.specs.Borrow.{sem, Lends, Array, u8 as byte};
+ghost use Rattle.dm_layout.specs.symbols.Sizes.{IsSize, codeword_count};
+ghost use Rattle.dm_layout.specs.symbols.Words.{IsWords, data_of, first_words};
+ghost use Rattle.dm_layout.specs.contracts.symbols.words.SymbolWordsIn.{the_row};
 
-use crate::symbols::lifting::lift_list;
 use crate::symbols::size::{MOST_CODEWORDS, SymbolSize};
-use crate::symbols::symbol::SymbolIn;
 use std::marker::Model;
 
 /// The codewords of a symbol of some [`SymbolSize`], at most `ROOM`: exactly its data codewords and then its check
@@ -25,15 +23,21 @@ pub struct SymbolWordsIn<const ROOM: usize> {
 pub type SymbolWords = SymbolWordsIn<MOST_CODEWORDS>;
 
 impl<const ROOM: usize> Model for SymbolWordsIn<ROOM> {
-    ghost use Rattle.dm_layout.specs.symbols.Words.{WordsView};
-    ghost use Rattle.dm_layout.specs.symbols.inner.Keeping.{kept_words, AreKeptIn};
+    ghost use Rattle.dm_layout.specs.symbols.Words.{WordsView, first_words};
+    ghost use Rattle.dm_layout.specs.symbols.inner.Keeping.{AreKeptIn};
 
     ghost Value = { WordsView };
 
-    ghost view = { λ w. kept_words w.size w.kept };
+    ghost view = { λ w. first_words w.size w.kept };
 
-    ghost invariant = { λ w. AreKeptIn ROOM w.size w.kept };
+    ghost invariant = { λ w. AreKeptIn ROOM w.size };
 }
+
+/// Says, for proofs alone, that bytes are below 256.
+#[inline(always)]
+fn are_bytes(_list: &[u8])
+    ensures { All (λ word. word < 256) _list.now }
+{}
 
 impl<const ROOM: usize> SymbolWordsIn<ROOM> {
     /// Gives the codewords `list` of a symbol of this size, data and then checks, in the order of the symbol: as many
@@ -49,6 +53,7 @@ impl<const ROOM: usize> SymbolWordsIn<ROOM> {
         let mut kept = [0; ROOM];
         let room = &mut kept[..];
         room[0..list.len()].copy_from_slice(list);
+        are_bytes(list);
         SymbolWordsIn { size, kept }
     }
 
@@ -67,55 +72,21 @@ impl<const ROOM: usize> SymbolWordsIn<ROOM> {
         }
     }
 
-    /// Turns these into codewords of this size with any values, to be put.
-    pub fn resize(&mut self, size: SymbolSize)
+    /// Turns these into codewords of this size with any values, to be put: they are the first of the bytes that it
+    /// gives, as many as the size has.
+    #[inline(always)]
+    pub fn resize(&mut self, size: SymbolSize) -> &mut [u8]
         requires { codeword_count size ≤ ROOM }
-        ensures size { self.new.size ≡ size }
-        ensures words { IsWords self.new }
+        ensures* lends { sem 𝓛 (Lends (the_row ROOM.row) (Array byte 0) self.entry result
+            (first_words size)) }
+        ensures value { first_words self.old.size result.now ≡ self.old }
+        ensures room { length result.now ≡ ROOM }
+        ensures size { IsSize size }
     {
         // For the proof alone: what `check_count` ensures says that the size stands in the table.
         let _checks = size.check_count();
         self.size = size;
-    }
-
-    /// Puts the data codewords, as many as the size has. The check codewords stay.
-    pub fn put_data(&mut self, prefix: &[u8])
-        requires { length prefix.now ≡ self.old.size.data_count }
-        ensures value { let rest = drop self.old.size.data_count self.old.list in
-            self.new ≡ record { size = self.old.size; list = prefix.now ++ rest } }
-        ensures words { IsWords self.new }
-    {
-        let kept = &mut self.kept[..];
-        kept[0..prefix.len()].copy_from_slice(prefix);
-    }
-
-    /// Puts the check codewords, as many as the size has. The data codewords stay.
-    pub fn put_checks(&mut self, checks: &[u8])
-        requires { length checks.now ≡ self.old.size.check_count }
-        ensures value { self.new
-            ≡ record { size = self.old.size; list = data_of self.old ++ checks.now } }
-        ensures words { IsWords self.new }
-    {
-        let start = usize::from(self.size.data_count());
-        let end = self.count();
-        let kept = &mut self.kept[..];
-        kept[start..end].copy_from_slice(checks);
-    }
-
-    /// Turns these into the codewords that a symbol holds.
-    pub(crate) fn lift_from<const ROWS: usize>(&mut self, symbol: &SymbolIn<ROWS>)
-        requires { codeword_count symbol.now.size ≤ ROOM }
-        ensures modules { IsSymbol symbol.now }
-        ensures size { self.new.size ≡ symbol.now.size }
-        ensures words { IsWords self.new }
-        ensures holds { HoldsBits (mapping_rows symbol.now.size) (mapping_columns symbol.now.size)
-            (mapped_cell symbol.now) self.new.list }
-    {
-        let size = symbol.size();
-        let count = (size.data_count() + size.check_count()) as usize;
-        let kept = &mut self.kept[..];
-        lift_list(&symbol.borrowed(), &mut kept[0..count]);
-        self.size = size;
+        &mut self.kept[..]
     }
 
     /// Gives how many codewords there are.
@@ -132,6 +103,7 @@ impl<const ROOM: usize> SymbolWordsIn<ROOM> {
         ensures words { IsWords self.now }
         ensures room { codeword_count self.now.size ≤ ROOM }
     {
+        are_bytes(&self.kept);
         self.size
     }
 
@@ -141,6 +113,7 @@ impl<const ROOM: usize> SymbolWordsIn<ROOM> {
         ensures words { IsWords self.now }
     {
         let kept = &self.kept[..];
+        are_bytes(kept);
         &kept[..self.count()]
     }
 
@@ -150,17 +123,8 @@ impl<const ROOM: usize> SymbolWordsIn<ROOM> {
         ensures words { IsWords self.now }
     {
         let kept = &self.kept[..];
+        are_bytes(kept);
         &kept[..self.size.data_count() as usize]
-    }
-
-    /// Puts a codeword at a place, counted from 0.
-    pub(crate) fn put(&mut self, place: usize, word: u8)
-        requires { place < length self.old.list }
-        ensures value { self.new
-            ≡ record { size = self.old.size; list = set self.old.list place word } }
-        ensures words { IsWords self.new }
-    {
-        self.kept[place] = word;
     }
 }
 

@@ -3,7 +3,6 @@
 use Rattle.std.specs.Prelude.{ℕ, Bool, not, nat_eq, List, [], map, Option, Some, None}
 use Rattle.dm_code.specs.Erased.{erased_places}
 use Rattle.dm_layout.specs.symbols.Sizes.{SizeEntry}
-use Rattle.dm_layout.specs.symbols.Words.{WordsView}
 use Rattle.dm_layout.specs.symbols.Blocks.{block_of}
 
 -- A mark says that its codeword is erased.
@@ -11,6 +10,6 @@ abbrev pub is_mark : ℕ → Bool
 is_mark word = not (nat_eq word 0)
 
 -- The places of block b are erased that have a mark; none is where there are no marks.
-abbrev pub marked_in : SizeEntry → Option WordsView → ℕ → List ℕ
+abbrev pub marked_in : SizeEntry → Option (List ℕ) → ℕ → List ℕ
 marked_in size None b = []
-marked_in size (Some marks) b = erased_places (map is_mark (block_of size.blocks b marks.list))
+marked_in size (Some marks) b = erased_places (map is_mark (block_of size.blocks b marks))

@@ -1,20 +1,20 @@
--- What trying the other dealing leaves of an inspection.
-use Rattle.std.specs.Prelude.{◌≡◌, ℕ, List, map, Option, Some}
+-- What mending the codewords that a symbol holds leaves.
+use Rattle.std.specs.Prelude.{◌≡◌, ◌↔◌, ℕ, List, Option, length}
+use Rattle.dm_words.specs.declared.extent.Extent.TheVariants.{Wide}
 use Rattle.dm_layout.specs.symbols.Symbols.{SymbolView}
+use Rattle.dm_symbol.specs.declared.symbol.dealing.Dealing.{Dealing}
 use Rattle.dm_symbol.specs.declared.symbol.dealing.Dealing.TheVariants.{Restarted}
-use Rattle.dm_symbol.specs.declared.symbol.inspection.SymbolInspectionIn.{SymbolInspectionIn}
 use Rattle.dm_symbol.specs.declared.symbol.reading.BlockReading.{BlockReading}
-use Rattle.dm_symbol.specs.Dealings.{IsDealtTwoWays}
-use Rattle.dm_symbol.specs.SymbolReading.{AreRestoredBy}
-use Rattle.dm_symbol.specs.inner.Restoring.{IsRestarted}
+use Rattle.dm_symbol.specs.Dealings.{dealt, erased_by}
+use Rattle.dm_symbol.specs.SymbolBlocks.{AreOfSize}
+use Rattle.dm_symbol.specs.SymbolReading.{AreRestored, AreBlocksMended}
 
--- The other dealing restores the symbol, and is shown; or it restores nothing, and the inspection stays.
-pub data IsRestartShown {room : ℕ} (modules : SymbolView) (doubtful : Option SymbolView)
-    (before after : SymbolInspectionIn room) : Type 0 where
-  shown : (blocks : List BlockReading) → IsRestarted modules doubtful after.mended blocks
-      → after.blocks.items ≡ map (λ block. Some block) blocks → after.dealing ≡ Restarted
-      → after.held ≡ before.held → after.border_faults ≡ before.border_faults
-      → IsRestartShown modules doubtful before after
-  stays : (IsDealtTwoWays modules.size → (held codewords : List ℕ)
-      → AreRestoredBy Restarted modules doubtful held codewords → ⊥) → after ≡ before
-      → IsRestartShown modules doubtful before after
+-- The codewords that are held are mended by the dealing that an inspection shows, with what is said of each block.
+pub record IsMended (modules : SymbolView) (doubtful : Option SymbolView) (held after : List ℕ) (by : Dealing)
+    (blocks : List (Option BlockReading)) : Type 0 where
+  pub of_size : AreOfSize modules.size after
+  pub dealing : (by ≡ Restarted)
+      ↔ ((codewords : List ℕ) × AreRestored Wide modules doubtful Restarted held codewords)
+  pub count : length blocks ≡ modules.size.blocks
+  pub mended : AreBlocksMended modules.size (erased_by by modules.size doubtful) (dealt by modules.size held)
+      (dealt by modules.size after) blocks

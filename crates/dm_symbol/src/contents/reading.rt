@@ -1,50 +1,16 @@
 //! Reading a symbol of any size as a content.
 
-ghost use Rattle.std.specs.Prelude.{◌≡◌, ◌≤◌, ◌*◌, ℕ, List, OnOk, IfErr, IfSome, option_map, Err};
+ghost use Rattle.std.specs.Prelude.{◌≡◌, ◌≤◌, ◌*◌, ℕ, List, OnOk, IfSome, option_map};
 ghost use Rattle.dm_layout.specs.symbols.Sizes.{codeword_count};
 ghost use Rattle.dm_words.specs.Messages.{most_spelled};
 ghost use Rattle.dm_words.specs.Outcomes.{outcome};
-ghost use Rattle.dm_words.specs.declared.contents.fault.ContentFault.{ContentFault};
 ghost use Rattle.dm_symbol.specs.SymbolReading.{AreRestored};
-ghost use Rattle.dm_symbol.specs.ContentReading.{IsContentRead, ContentReadResult, content_reading_in};
-ghost use Rattle.dm_symbol.specs.Restored.{IsRestored};
+ghost use Rattle.dm_symbol.specs.ContentReading.{IsContentRead, content_reading_in};
 
 use crate::contents::{ContentReadFault, ContentReadingIn};
-use crate::symbol::dealing::Dealing;
-use crate::symbol::reading::{BlockReading, Lost, ReadOptions, restore_to};
-use arrayvec::ArrayVec;
-use dm_layout::symbols::{MOST_BLOCKS, SymbolIn, SymbolWordsIn};
+use crate::symbol::reading::{ReadOptions, restore_symbol_to};
+use dm_layout::symbols::{SymbolIn, SymbolWordsIn};
 use dm_words::{LARGEST_ROOM, content_to_as, symbology_number};
-
-/// Restores the codewords of a symbol, the first steps of [`read_content_to()`], whatever they say: after `Ok`, `words`
-/// are these, `dealing` is the one by which they are restored, `blocks` says what became of each block, and `faults` is
-/// the number of wrong modules of the borders. The fault is `Border` or `Block`, as there; after `Border` these three
-/// are as they were. So what the codewords say can be read in room that is chosen by them.
-pub fn restore_symbol_to<const ROWS: usize, const WORDS: usize>(
-    symbol: &SymbolIn<ROWS>,
-    how: ReadOptions<ROWS>,
-    words: &mut SymbolWordsIn<WORDS>,
-    dealing: &mut Dealing,
-    blocks: &mut ArrayVec<BlockReading, MOST_BLOCKS>,
-    faults: &mut u16,
-) -> Result<(), ContentReadFault>
-    requires doubtful { IfSome how.doubtful (λ doubtful. doubtful.now.size ≡ symbol.now.size) }
-    requires codewords { codeword_count symbol.now.size ≤ WORDS }
-    ensures restored { OnOk result (IsRestored how.entry.extent symbol.now
-        (option_map (λ d. d.now) how.entry.doubtful) how.entry.border_limit words.new dealing.new
-        blocks.new.items faults.new) }
-    ensures lost { IfErr result (λ why. ContentReadResult how.entry.extent symbol.now
-        (option_map (λ d. d.now) how.entry.doubtful) how.entry.border_limit (Err why)) }
-    ensures unsaid { (why : ContentFault) → result ≡ Err (ContentReadFault.Words why) → ⊥ }
-    ensures same { (count : ℕ) → result ≡ Err (ContentReadFault.Border count)
-        → (dealing.new ≡ dealing.old) × (blocks.new ≡ blocks.old) × (faults.new ≡ faults.old) }
-{
-    match restore_to(symbol, how, words, dealing, blocks, faults) {
-        Ok(()) => Ok(()),
-        Err(Lost::Border(count)) => Err(ContentReadFault::Border(count)),
-        Err(Lost::Block(index)) => Err(ContentReadFault::Block(index)),
-    }
-}
 
 /// Reads a symbol of any size as a content, which is a head or none, items and marks (ISO/IEC 16022, decode algorithm,
 /// ECI encodation, structured append, reader programming): refuses it if more modules of its borders than

@@ -1,12 +1,14 @@
 //! Writing a content in a symbol: in the smallest size of a choice.
 
-ghost use Rattle.std.specs.Prelude.{◌≡◌, ◌≤◌, IfOk, Ok, Err, OnErr, OnOk, length};
+ghost use Rattle.std.specs.Prelude.{◌≡◌, ◌≤◌, ℕ, List, IfOk, Ok, Err, OnErr, OnOk, length};
+ghost use Rattle.dm_layout.specs.symbols.Holding.{IsLaid};
 ghost use Rattle.dm_layout.specs.symbols.Sizes.{IsSize, SizeEntry, codeword_count};
 ghost use Rattle.dm_words.specs.Heads.{IsHead};
 ghost use Rattle.dm_words.specs.Contents.{AreMarks, ContentView};
 ghost use Rattle.dm_words.specs.Messages.{IsMessage};
 ghost use Rattle.dm_words.specs.Outcomes.{outcome};
 ghost use Rattle.dm_symbol.specs.PlainSymbol.{IsPlainSymbol};
+ghost use Rattle.dm_symbol.specs.SymbolBlocks.{AreCodewordsOf, first_data, words_with};
 ghost use Rattle.dm_symbol.specs.WrittenContent.{AreChosen, IsWrittenAs};
 
 use crate::symbol::writing::complete_with;
@@ -105,8 +107,9 @@ fn choose_normal_to(
 
 /// Lays data codewords of a size, with check codewords, in a symbol (ISO/IEC 16022, symbol construction): turns
 /// `symbol`, whatever it was before, into the one in which a content is written for which [`choose_words_to()`] chose
-/// them. `words` is room for the codewords, whatever they were before. Both have room for the size; small ones are
-/// made faster than a [`Symbol`] and [`SymbolWords`], which have room for every size.
+/// them. Whichever they are, the symbol holds them as its data codewords. `words` is room for the codewords, whatever
+/// they were before. Both have room for the size; small ones are made faster than a [`Symbol`] and [`SymbolWords`],
+/// which have room for every size.
 pub fn lay_words_to<const WORDS: usize, const ROWS: usize>(
     size: SymbolSize,
     list: &[u8],
@@ -116,8 +119,10 @@ pub fn lay_words_to<const WORDS: usize, const ROWS: usize>(
     requires count { length list.now ≡ size.data_count }
     requires room { codeword_count size ≤ WORDS }
     requires high { size.rows ≤ ROWS }
-    ensures { (form : Form) (choice : SizeChoice) (content : ContentView)
+    ensures written { (form : Form) (choice : SizeChoice) (content : ContentView)
         → AreChosen form choice content size list.now → IsWrittenAs form choice content (Ok symbol.new) }
+    ensures laid { (codewords : List ℕ) × IsLaid (words_with size codewords) symbol.new
+        × (first_data size codewords ≡ list.now) × AreCodewordsOf size codewords }
 {
     complete_with(words, size, list);
     lay_to(words, symbol);

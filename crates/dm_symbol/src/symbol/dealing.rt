@@ -1,16 +1,15 @@
 //! The two dealings of the codewords of 144 x 144 into its blocks.
 
-ghost use Rattle.std.specs.Prelude.{◌≡◌, ◌≤◌, ℕ, List, IfSome, IsTrue, IsFalse, option_map};
+ghost use Rattle.std.specs.Prelude.{◌≡◌, ◌+◌, ◌≤◌, ℕ, List, IfSome, IsTrue, IsFalse, length, option_map};
 ghost use Rattle.dm_layout.specs.symbols.Sizes.{codeword_count};
 ghost use Rattle.dm_symbol.specs.Dealings.{IsDealtTwoWays};
-ghost use Rattle.dm_symbol.specs.SymbolBlocks.{AreOfSize};
 ghost use Rattle.dm_symbol.specs.SymbolReading.{AreRestoredBy};
 ghost use Rattle.dm_symbol.specs.inner.Restoring.{IsRestarted};
 ghost use Rattle.dm_symbol.specs.inner.Turns.{turned};
 
 use crate::symbol::reading::{BlockReading, restore_blocks};
 use arrayvec::ArrayVec;
-use dm_layout::symbols::{MOST_BLOCKS, SymbolIn, SymbolWordsIn, lift_to};
+use dm_layout::symbols::{BorrowedSymbol, MOST_BLOCKS, lift_to};
 
 /// How the check codewords of a symbol are dealt into its blocks. Both dealings are the same but in 144 x 144.
 #[derive(Clone, Copy, Debug, Default, PartialEq, Eq)]
@@ -37,21 +36,16 @@ const BLOCKS: usize = 10;
 /// Turns the check codewords of a symbol of 144 x 144, ten by ten: number i of them becomes the one that stood in the
 /// same ten at (i + shift) mod 10. Turned by the number of data codewords, those dealt anew stand as the standard deals
 /// them; turned by 2 more, all stand as they did.
-pub(crate) fn turn_checks<const WORDS: usize>(words: &mut SymbolWordsIn<WORDS>, shift: usize)
-    requires size { IsDealtTwoWays words.old.size }
+pub(crate) fn turn_checks(words: &mut [u8], shift: usize)
+    requires count { length words.old ≡ DATA + CHECKS }
     requires shift { shift ≤ DATA }
-    ensures size { words.new.size ≡ words.old.size }
-    ensures turned { words.new.list ≡ turned shift words.old.list }
-    ensures words { AreOfSize words.old.size words.new.list }
+    ensures { words.new ≡ turned shift words.old }
 {
-    // For the proof alone: what `size` ensures says that the size stands in the table.
-    let _size = words.size();
-    let list = words.list();
     let mut checks = ArrayVec::<u8, CHECKS>::new();
     for i in 0..CHECKS {
-        checks.push(list[DATA + (i / BLOCKS * BLOCKS + (i + shift) % BLOCKS)]);
+        checks.push(words[DATA + (i / BLOCKS * BLOCKS + (i + shift) % BLOCKS)]);
     }
-    words.put_checks(&checks);
+    words[DATA..].copy_from_slice(&checks);
 }
 
 /// Restores a symbol of 144 x 144 by the other dealing, and says whether each block is near to a codeword by it; or
@@ -59,14 +53,14 @@ pub(crate) fn turn_checks<const WORDS: usize>(words: &mut SymbolWordsIn<WORDS>, 
 /// the symbol, and `blocks` says what became of each block. It isn't inlined, so that it takes time and room on the
 /// stack only where a block is lost.
 #[inline(never)]
-pub(crate) fn restore_restarted<const ROWS: usize, const WORDS: usize>(
-    symbol: &SymbolIn<ROWS>,
-    doubtful: Option<&SymbolIn<ROWS>>,
-    words: &mut SymbolWordsIn<WORDS>,
+pub(crate) fn restore_restarted(
+    symbol: &BorrowedSymbol,
+    doubtful: Option<&BorrowedSymbol>,
+    words: &mut [u8],
     blocks: &mut ArrayVec<BlockReading, MOST_BLOCKS>,
 ) -> bool
     requires doubtful { IfSome doubtful (λ doubtful. doubtful.now.size ≡ symbol.now.size) }
-    requires codewords { codeword_count symbol.now.size ≤ WORDS }
+    requires count { length words.old ≡ codeword_count symbol.now.size }
     ensures restored { IsTrue result → IsRestarted symbol.now (option_map (λ d. d.now) doubtful.entry)
         words.new blocks.new.items }
     ensures lost { IsFalse result → IsDealtTwoWays symbol.now.size → (held codewords : List ℕ)
@@ -79,7 +73,7 @@ pub(crate) fn restore_restarted<const ROWS: usize, const WORDS: usize>(
     }
     lift_to(symbol, words);
     turn_checks(words, DATA);
-    match restore_blocks(words, Dealing::Restarted, doubtful, blocks) {
+    match restore_blocks(size, words, Dealing::Restarted, doubtful, blocks) {
         Ok(()) => {
             turn_checks(words, 2);
             true

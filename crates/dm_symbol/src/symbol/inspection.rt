@@ -1,21 +1,26 @@
 //! Inspection of a symbol of any size: its codewords before and after they are restored, whether it can be read or not.
 
-ghost use Rattle.std.specs.Prelude.{◌≡◌, ◌<◌, ◌≤◌, ℕ, [], IfSome, IsSome, IsTrue, IsFalse, Some, None};
-ghost use Rattle.std.specs.Prelude.{get_or, length, map, option_map};
+ghost use Rattle.std.specs.Prelude.{◌≡◌, ◌≤◌, List, [], IfSome, IsTrue, IsFalse, Some, length, map, option_map};
+ghost use Rattle.std.specs.Prelude.{ℕ};
 ghost use Rattle.dm_layout.specs.symbols.Sizes.{codeword_count};
+ghost use Rattle.dm_layout.specs.symbols.Holding.{Holds};
+ghost use Rattle.dm_layout.specs.symbols.Words.{first_words};
+ghost use Rattle.dm_symbol.specs.Dealings.{IsDealtTwoWays};
 ghost use Rattle.dm_symbol.specs.Doubt.{erased_in};
 ghost use Rattle.dm_symbol.specs.SymbolBlocks.{AreOfSize};
-ghost use Rattle.dm_symbol.specs.SymbolReading.{AreBlocksMended};
+ghost use Rattle.dm_symbol.specs.SymbolReading.{AreBlocksMended, AreRestoredBy};
 ghost use Rattle.dm_symbol.specs.SymbolInspection.{IsSymbolInspection};
 ghost use Rattle.dm_symbol.specs.inner.Marks.{marked_in};
-ghost use Rattle.dm_symbol.specs.inner.Showing.{IsRestartShown};
+ghost use Rattle.dm_symbol.specs.inner.Restoring.{AreHeldBy, IsRestarted};
+ghost use Rattle.dm_symbol.specs.inner.Showing.{IsMended};
 
-use crate::symbol::correction::{marks_for, restore_block};
+use crate::symbol::correction::{mark, restore_block};
 use crate::symbol::dealing::{Dealing, restore_restarted};
 use crate::symbol::reading::BlockReading;
 use arrayvec::ArrayVec;
 use dm_layout::symbols::{
-    MOST_BLOCKS, MOST_CODEWORDS, SymbolIn, SymbolSize, SymbolWordsIn, border_faults, lift_to,
+    BorrowedSymbol, MOST_BLOCKS, MOST_CODEWORDS, SymbolIn, SymbolSize, SymbolWordsIn,
+    border_faults, lift_to,
 };
 
 /// The codewords of a symbol, at most `WORDS`, and the same restored as far as they can be.
@@ -73,49 +78,109 @@ pub fn inspect_symbol_to<const ROWS: usize, const WORDS: usize>(
     ensures { IsSymbolInspection symbol.now (option_map (λ d. d.now) doubtful.entry)
         inspection.new }
 {
-    inspection.border_faults = border_faults(symbol, doubtful);
-    lift_to(symbol, &mut inspection.held);
-    inspection.mended = SymbolWordsIn::new(inspection.held.size(), inspection.held.list());
-    inspection.dealing = Dealing::Standard;
-    mend_blocks(&mut inspection.mended, doubtful, &mut inspection.blocks);
-    if has_lost(&inspection.blocks) {
-        show_restarted(symbol, doubtful, inspection);
-    }
-}
-
-/// Whether there is a block to which no codeword is near, among those of a [`SymbolInspectionIn`].
-pub fn has_lost(blocks: &[Option<BlockReading>]) -> bool
-    ensures some { IsTrue result → (b : ℕ) × (b < length blocks.now) × (get_or blocks.now b None ≡ None) }
-    ensures none { IsFalse result → (b : ℕ) → b < length blocks.now → IsSome (get_or blocks.now b None) }
-{
-    for block in blocks {
-        if block.is_none() {
-            return true;
+    let size = symbol.size();
+    let symbol = symbol.borrowed();
+    let (held, mended) = (&mut inspection.held, &mut inspection.mended);
+    let (held, mended) = (held.resize(size), mended.resize(size));
+    match doubtful {
+        None => {
+            inspection.border_faults = border_faults(&symbol, None);
+            inspection.dealing = mend(&symbol, None, held, mended, &mut inspection.blocks);
+        }
+        Some(doubtful) => {
+            let doubtful = doubtful.borrowed();
+            inspection.border_faults = border_faults(&symbol, Some(&doubtful));
+            inspection.dealing = mend(
+                &symbol,
+                Some(&doubtful),
+                held,
+                mended,
+                &mut inspection.blocks,
+            );
         }
     }
-    false
 }
 
-/// Shows the other dealing in an inspection, if the symbol is of 144 x 144 and each block is near to a codeword by it;
-/// else the inspection stays. It isn't inlined, so that it takes room on the stack only where a block is lost.
-#[inline(never)]
-fn show_restarted<const ROWS: usize, const WORDS: usize>(
-    symbol: &SymbolIn<ROWS>,
-    doubtful: Option<&SymbolIn<ROWS>>,
-    inspection: &mut SymbolInspectionIn<WORDS>,
-)
+/// Leaves the codewords that a symbol holds at the start of `held`, and the same restored as far as they can be at the
+/// start of `mended`, whatever the rooms; leaves in `blocks` what became of each block, and gives the dealing by which
+/// that is.
+fn mend(
+    symbol: &BorrowedSymbol,
+    doubtful: Option<&BorrowedSymbol>,
+    held: &mut [u8],
+    mended: &mut [u8],
+    blocks: &mut ArrayVec<Option<BlockReading>, MOST_BLOCKS>,
+) -> Dealing
     requires doubtful { IfSome doubtful (λ doubtful. doubtful.now.size ≡ symbol.now.size) }
-    requires codewords { codeword_count symbol.now.size ≤ WORDS }
-    ensures shown { IsRestartShown symbol.now (option_map (λ d. d.now) doubtful.entry)
-        inspection.old inspection.new }
+    requires held { codeword_count symbol.now.size ≤ length held.old }
+    requires mended { codeword_count symbol.now.size ≤ length mended.old }
+    ensures held { Holds symbol.now (first_words symbol.now.size held.new) }
+    ensures mended { IsMended symbol.now (option_map (λ d. d.now) doubtful.entry)
+        (first_words symbol.now.size held.new).list (first_words symbol.now.size mended.new).list result
+        blocks.new.items }
 {
-    let mut words = SymbolWordsIn::zeros(symbol.size());
-    let mut blocks = ArrayVec::new();
-    if restore_restarted(symbol, doubtful, &mut words, &mut blocks) {
-        inspection.mended = words;
-        inspection.dealing = Dealing::Restarted;
-        show_blocks(&blocks, &mut inspection.blocks);
+    let size = symbol.size();
+    let count = usize::from(size.data_count() + size.check_count());
+    let held = &mut held[..count];
+    lift_to(symbol, held);
+    let words = &mut mended[..count];
+    words.copy_from_slice(held);
+    mend_words(symbol, doubtful, words, blocks)
+}
+
+/// Restores the codewords that a symbol holds as far as they can be, leaves in `blocks` what became of each block, and
+/// gives the dealing by which that is.
+fn mend_words(
+    symbol: &BorrowedSymbol,
+    doubtful: Option<&BorrowedSymbol>,
+    words: &mut [u8],
+    blocks: &mut ArrayVec<Option<BlockReading>, MOST_BLOCKS>,
+) -> Dealing
+    requires doubtful { IfSome doubtful (λ doubtful. doubtful.now.size ≡ symbol.now.size) }
+    requires held { AreHeldBy symbol.now words.old }
+    ensures { IsMended symbol.now (option_map (λ d. d.now) doubtful.entry) words.old words.new result
+        blocks.new.items }
+{
+    let size = symbol.size();
+    mend_blocks(size, words, doubtful, blocks);
+    if !blocks.iter().any(|block| block.is_none()) {
+        return Dealing::Standard;
     }
+    if mend_restarted(symbol, doubtful, words, blocks) {
+        Dealing::Restarted
+    } else {
+        Dealing::Standard
+    }
+}
+
+/// Restores the codewords by the other dealing, if the symbol is of 144 x 144 and each block is near to a codeword by
+/// it, and says so; else all stays. It isn't inlined, so that it takes room on the stack only where a block is lost.
+#[inline(never)]
+fn mend_restarted(
+    symbol: &BorrowedSymbol,
+    doubtful: Option<&BorrowedSymbol>,
+    words: &mut [u8],
+    blocks: &mut ArrayVec<Option<BlockReading>, MOST_BLOCKS>,
+) -> bool
+    requires doubtful { IfSome doubtful (λ doubtful. doubtful.now.size ≡ symbol.now.size) }
+    requires words { AreOfSize symbol.now.size words.old }
+    ensures restored { IsTrue result → (readings : List BlockReading)
+        × IsRestarted symbol.now (option_map (λ d. d.now) doubtful.entry) words.new readings
+        × (blocks.new.items ≡ map (λ block. Some block) readings) }
+    ensures lost { IsFalse result → IsDealtTwoWays symbol.now.size → (held codewords : List ℕ)
+        → AreRestoredBy Dealing.Restarted symbol.now (option_map (λ d. d.now) doubtful.entry) held codewords
+        → ⊥ }
+    ensures same { IsFalse result → (words.new ≡ words.old) × (blocks.new ≡ blocks.old) }
+{
+    let mut room = [0; MOST_CODEWORDS];
+    let restored = &mut room[..words.len()];
+    let mut readings = ArrayVec::new();
+    if !restore_restarted(symbol, doubtful, restored, &mut readings) {
+        return false;
+    }
+    words.copy_from_slice(restored);
+    show_blocks(&readings, blocks);
+    true
 }
 
 /// Leaves in `shown` these readings, each of a block to which a codeword is near.
@@ -131,62 +196,65 @@ fn show_blocks(blocks: &[BlockReading], shown: &mut ArrayVec<Option<BlockReading
 
 /// Restores each block to which a codeword is near but for what is doubtful, and leaves in `blocks` what became of
 /// each.
-fn mend_blocks<const ROWS: usize, const WORDS: usize>(
-    words: &mut SymbolWordsIn<WORDS>,
-    doubtful: Option<&SymbolIn<ROWS>>,
+fn mend_blocks(
+    size: SymbolSize,
+    words: &mut [u8],
+    doubtful: Option<&BorrowedSymbol>,
     blocks: &mut ArrayVec<Option<BlockReading>, MOST_BLOCKS>,
 )
-    requires { IfSome doubtful (λ doubtful. doubtful.now.size ≡ words.old.size) }
-    ensures size { words.new.size ≡ words.old.size }
-    ensures words { AreOfSize words.old.size words.new.list }
-    ensures count { length blocks.new.items ≡ words.old.size.blocks }
-    ensures mended { AreBlocksMended words.old.size
-        (erased_in words.old.size (option_map (λ d. d.now) doubtful.entry)) words.old.list
-        words.new.list blocks.new.items }
+    requires words { AreOfSize size words.old }
+    requires doubtful { IfSome doubtful (λ doubtful. doubtful.now.size ≡ size) }
+    ensures words { AreOfSize size words.new }
+    ensures count { length blocks.new.items ≡ size.blocks }
+    ensures mended { AreBlocksMended size
+        (erased_in size (option_map (λ d. d.now) doubtful.entry)) words.old words.new
+        blocks.new.items }
 {
     match doubtful {
-        None => mend_each(words, None, blocks),
-        Some(doubtful) => mend_doubtful(words, doubtful, blocks),
+        None => mend_each(size, words, None, blocks),
+        Some(doubtful) => mend_doubtful(size, words, doubtful, blocks),
     }
 }
 
 /// Does the same as [`mend_blocks`] where modules are doubtful. It isn't inlined, so that the marks take room on the
 /// stack only where there are any.
 #[inline(never)]
-fn mend_doubtful<const ROWS: usize, const WORDS: usize>(
-    words: &mut SymbolWordsIn<WORDS>,
-    doubtful: &SymbolIn<ROWS>,
+fn mend_doubtful(
+    size: SymbolSize,
+    words: &mut [u8],
+    doubtful: &BorrowedSymbol,
     blocks: &mut ArrayVec<Option<BlockReading>, MOST_BLOCKS>,
 )
-    requires { doubtful.now.size ≡ words.old.size }
-    ensures size { words.new.size ≡ words.old.size }
-    ensures words { AreOfSize words.old.size words.new.list }
-    ensures count { length blocks.new.items ≡ words.old.size.blocks }
-    ensures mended { AreBlocksMended words.old.size
-        (erased_in words.old.size (Some doubtful.now)) words.old.list words.new.list
+    requires words { AreOfSize size words.old }
+    requires doubtful { doubtful.now.size ≡ size }
+    ensures words { AreOfSize size words.new }
+    ensures count { length blocks.new.items ≡ size.blocks }
+    ensures mended { AreBlocksMended size (erased_in size (Some doubtful.now)) words.old words.new
         blocks.new.items }
 {
-    let marks = marks_for(words, Dealing::Standard, doubtful);
-    mend_each(words, Some(&marks), blocks);
+    let mut room = [0; MOST_CODEWORDS];
+    let marks = &mut room[..words.len()];
+    mark(Dealing::Standard, doubtful, marks);
+    mend_each(size, words, Some(marks), blocks);
 }
 
 /// Restores each block to which a codeword is near but for the places that have marks, and leaves in `blocks` what
 /// became of each.
-fn mend_each<const WORDS: usize>(
-    words: &mut SymbolWordsIn<WORDS>,
-    marks: Option<&SymbolWordsIn<WORDS>>,
+fn mend_each(
+    size: SymbolSize,
+    words: &mut [u8],
+    marks: Option<&[u8]>,
     blocks: &mut ArrayVec<Option<BlockReading>, MOST_BLOCKS>,
 )
-    requires { IfSome marks (λ marks. marks.now.size ≡ words.old.size) }
-    ensures size { words.new.size ≡ words.old.size }
-    ensures words { AreOfSize words.old.size words.new.list }
-    ensures count { length blocks.new.items ≡ words.old.size.blocks }
-    ensures mended { AreBlocksMended words.old.size
-        (marked_in words.old.size (option_map (λ m. m.now) marks.entry)) words.old.list
-        words.new.list blocks.new.items }
+    requires words { AreOfSize size words.old }
+    requires marks { IfSome marks (λ marks. AreOfSize size marks.now) }
+    ensures words { AreOfSize size words.new }
+    ensures count { length blocks.new.items ≡ size.blocks }
+    ensures mended { AreBlocksMended size (marked_in size (option_map (λ m. m.now) marks.entry))
+        words.old words.new blocks.new.items }
 {
     blocks.clear();
-    for b in 0..words.size().blocks() {
-        blocks.push(restore_block(words, marks, usize::from(b)));
+    for b in 0..size.blocks() {
+        blocks.push(restore_block(size, words, marks, usize::from(b)));
     }
 }

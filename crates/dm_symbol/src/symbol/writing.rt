@@ -3,6 +3,7 @@
 ghost use Rattle.std.specs.Prelude.{◌≡◌, ◌≢◌, ◌<◌, ◌≤◌, ℕ, length};
 ghost use Rattle.dm_code.specs.Codeword.{IsCodeword};
 ghost use Rattle.dm_layout.specs.symbols.Sizes.{block_check, codeword_count};
+ghost use Rattle.dm_layout.specs.symbols.Words.{first_words};
 ghost use Rattle.dm_symbol.specs.SymbolBlocks.{AreOfSize, AreCodewordsOf, block_in, first_data};
 
 use dm_code::encode;
@@ -21,56 +22,62 @@ pub(crate) fn complete_with<const WORDS: usize>(
     ensures data_words { first_data size words.new.list ≡ list.now }
     ensures checked { AreCodewordsOf size words.new.list }
 {
-    words.resize(size);
-    words.put_data(list);
-    complete(words);
+    complete_in(words.resize(size), size, list);
+}
+
+/// Does the same, whatever the room: the codewords are left at the start of `room`.
+fn complete_in(room: &mut [u8], size: SymbolSize, list: &[u8])
+    requires room { codeword_count size ≤ length room.old }
+    requires count { length list.now ≡ size.data_count }
+    ensures data_words { first_data size (first_words size room.new).list ≡ list.now }
+    ensures checked { AreCodewordsOf size (first_words size room.new).list }
+{
+    let words = &mut room[..usize::from(size.data_count() + size.check_count())];
+    words[..list.len()].copy_from_slice(list);
+    complete(size, words);
 }
 
 /// Puts the check codewords, which make each block a codeword of its Reed-Solomon code; the data codewords stay.
-fn complete<const WORDS: usize>(words: &mut SymbolWordsIn<WORDS>)
-    ensures size { words.new.size ≡ words.old.size }
-    ensures data_words { first_data words.old.size words.new.list
-        ≡ first_data words.old.size words.old.list }
-    ensures checked { AreCodewordsOf words.old.size words.new.list }
+fn complete(size: SymbolSize, words: &mut [u8])
+    requires { AreOfSize size words.old }
+    ensures words { AreOfSize size words.new }
+    ensures data_words { first_data size words.new ≡ first_data size words.old }
+    ensures checked { AreCodewordsOf size words.new }
 {
-    let blocks = words.size().blocks();
-    if blocks == 1 {
-        complete_only_block(words);
+    if size.blocks() == 1 {
+        complete_only_block(size, words);
         return;
     }
-    for b in 0..usize::from(blocks) {
-        complete_block(words, b);
+    for b in 0..usize::from(size.blocks()) {
+        complete_block(size, words, b);
     }
 }
 
 /// Puts the check codewords of a symbol that has one block.
-fn complete_only_block<const WORDS: usize>(words: &mut SymbolWordsIn<WORDS>)
-    requires { words.old.size.blocks ≡ 1 }
-    ensures size { words.new.size ≡ words.old.size }
-    ensures data_words { first_data words.old.size words.new.list
-        ≡ first_data words.old.size words.old.list }
-    ensures checked { AreCodewordsOf words.old.size words.new.list }
+fn complete_only_block(size: SymbolSize, words: &mut [u8])
+    requires words { AreOfSize size words.old }
+    requires one { size.blocks ≡ 1 }
+    ensures words { AreOfSize size words.new }
+    ensures data_words { first_data size words.new ≡ first_data size words.old }
+    ensures checked { AreCodewordsOf size words.new }
 {
-    let size = words.size();
-    let checks = encode(words.data_part(), usize::from(size.block_check()));
-    words.put_checks(&checks);
+    let front = usize::from(size.data_count());
+    let checks = encode(&words[..front], usize::from(size.block_check()));
+    words[front..].copy_from_slice(&checks);
 }
 
 /// Puts the check codewords of one block: its data codewords stay, and it becomes a codeword of its Reed-Solomon code.
-fn complete_block<const WORDS: usize>(words: &mut SymbolWordsIn<WORDS>, b: usize)
-    requires { b < words.old.size.blocks }
-    ensures size { words.new.size ≡ words.old.size }
-    ensures words { AreOfSize words.old.size words.new.list }
-    ensures data_words { first_data words.old.size words.new.list
-        ≡ first_data words.old.size words.old.list }
-    ensures checked { IsCodeword (block_check words.old.size)
-        (block_in words.old.size words.new.list b) }
-    ensures others { (a : ℕ) → a < words.old.size.blocks → a ≢ b
-        → block_in words.old.size words.new.list a ≡ block_in words.old.size words.old.list a }
+fn complete_block(size: SymbolSize, words: &mut [u8], b: usize)
+    requires words { AreOfSize size words.old }
+    requires block { b < size.blocks }
+    ensures words { AreOfSize size words.new }
+    ensures data_words { first_data size words.new ≡ first_data size words.old }
+    ensures checked { IsCodeword (block_check size) (block_in size words.new b) }
+    ensures others { (a : ℕ) → a < size.blocks → a ≢ b
+        → block_in size words.new a ≡ block_in size words.old a }
 {
-    let size = words.size();
-    let mut list = block(words, b);
+    let mut list = block(size, words, b);
     list.truncate(usize::from(size.block_data(b)));
     let checks = encode(&list, usize::from(size.block_check()));
-    put_block_checks(words, b, &checks);
+    put_block_checks(size, words, b, &checks);
 }

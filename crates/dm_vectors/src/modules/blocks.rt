@@ -44,7 +44,7 @@ fn counted() -> Option<SymbolWords> {
 /// The first, the second and the last codeword of a block, and its length.
 fn ends_of(words: &SymbolWords, b: usize) -> (u8, u8, u8, usize) {
     if b < words.size().blocks() as usize {
-        let block = block(words, b);
+        let block = block(words.size(), words.list(), b);
         let last = block.len().saturating_sub(1);
         (
             byte_at(&block, 0),
@@ -78,8 +78,10 @@ fn blocks_take_the_places_that_leave_their_number(rt: HostRuntime) {
 fn clear_block(words: &mut SymbolWords, b: usize) {
     let size = words.size();
     if b < size.blocks() as usize {
+        let count = usize::from(size.data_count() + size.check_count());
         put_block(
-            words,
+            size,
+            &mut words.resize(size)[..count],
             b,
             &[0; MOST_CODEWORDS][..size.block_length(b) as usize],
         );

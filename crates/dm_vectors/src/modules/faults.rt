@@ -23,15 +23,15 @@ fn wrong_border_modules_are_counted(rt: HostRuntime) {
         return;
     };
     let mut symbol = laid(&words);
-    holds(&rt, border_faults(&symbol, None) == 0);
+    holds(&rt, border_faults(&symbol.borrowed(), None) == 0);
     turn(&mut symbol, 0, 0);
     turn(&mut symbol, 7, 31);
     turn(&mut symbol, 3, 15);
     turn(&mut symbol, 3, 16);
-    holds(&rt, border_faults(&symbol, None) == 4);
+    holds(&rt, border_faults(&symbol.borrowed(), None) == 4);
     turn(&mut symbol, 3, 14);
     turn(&mut symbol, 1, 17);
-    holds(&rt, border_faults(&symbol, None) == 4);
+    holds(&rt, border_faults(&symbol.borrowed(), None) == 4);
 }
 
 #[test]
@@ -45,10 +45,16 @@ fn doubtful_border_modules_are_not_counted(rt: HostRuntime) {
     turn(&mut symbol, 0, 0);
     turn(&mut symbol, 7, 31);
     turn(&mut symbol, 3, 15);
-    holds(&rt, border_faults(&symbol, Some(&doubtful)) == 3);
+    holds(
+        &rt,
+        border_faults(&symbol.borrowed(), Some(&doubtful.borrowed())) == 3,
+    );
     turn(&mut doubtful, 7, 31);
     turn(&mut doubtful, 3, 16);
-    holds(&rt, border_faults(&symbol, Some(&doubtful)) == 2);
+    holds(
+        &rt,
+        border_faults(&symbol.borrowed(), Some(&doubtful.borrowed())) == 2,
+    );
 }
 
 /// The colour that a border of 8 x 32 prescribes at a row and a column.

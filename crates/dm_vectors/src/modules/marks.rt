@@ -15,7 +15,7 @@ fn is_printed(rows: u16, columns: u16, words: &[u8], lines: &[&str]) -> bool {
     };
     // For the proof alone: what `check_count` ensures says that there is room.
     let _checks = symbol.size().check_count();
-    lift(&symbol) == words && border_faults(&symbol, None) == 0 && laid(&words) == symbol
+    lift(&symbol) == words && border_faults(&symbol.borrowed(), None) == 0 && laid(&words) == symbol
 }
 
 /// The codewords of a symbol of 8 x 18, data and then checks.

@@ -22,8 +22,10 @@ fn hold(size: SymbolSize, symbol: &mut Symbol, words: &mut SymbolWords) -> bool 
     // For the proof alone: what these ensure says that there is room.
     let _rows = expected.size().rows();
     lay_to(&expected, symbol);
-    let _checks = symbol.size().check_count();
-    lift_to(symbol, words);
+    let size = symbol.size();
+    let count = usize::from(size.data_count() + size.check_count());
+    let room = words.resize(size);
+    lift_to(&symbol.borrowed(), &mut room[..count]);
     *symbol == laid(&expected) && *words == expected
 }
 

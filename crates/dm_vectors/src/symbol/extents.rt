@@ -2,7 +2,7 @@
 //! run.
 
 use super::*;
-use dm_symbol::{ContentReading, Extent, MESSAGE_ROOM, Symbol, light_grid, normal_to, read_to};
+use dm_symbol::{ContentReading, Extent, MESSAGE_ROOM, Symbol, normal_to, read_to};
 
 /// Sides, data codewords, the fault with which the usual extent refuses them, and the bytes that the wide extent reads.
 static ROWS: [(u16, &[u8], WordFault, &[u8]); 6] = [
@@ -41,7 +41,7 @@ static ROWS: [(u16, &[u8], WordFault, &[u8]); 6] = [
 
 /// Whether the grid says these bytes and has this normal grid, in the usual extent, and leaves both in targets.
 fn says_usually(grid: &Grid, text: &[u8], normal: &Grid) -> bool {
-    let (mut reading, mut target) = (Reading::default(), light_grid());
+    let (mut reading, mut target) = (Reading::default(), Grid::default());
     read_to(grid, 0, &mut reading).is_ok()
         && has_bytes(&reading.message, text)
         && normal_to(Profile::Ascii, grid, 0, &mut reading, &mut target).is_ok()

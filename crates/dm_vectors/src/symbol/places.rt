@@ -1,7 +1,7 @@
 //! Results in places that held others.
 
 use super::*;
-use dm_symbol::{light_grid, normal_to, read_to, write_to};
+use dm_symbol::{normal_to, read_to, write_to};
 
 /// Places for results, which hold whatever came last.
 #[derive(Drop)]
@@ -82,8 +82,8 @@ fn is_too_long_for_ascii(places: &mut Places) -> bool {
 fn results_in_places(rt: HostRuntime) {
     let mut places = Places {
         reading: Reading::default(),
-        grid: light_grid(),
-        normal_grid: light_grid(),
+        grid: Grid::default(),
+        normal_grid: Grid::default(),
     };
     holds(&rt, side_of(&places.grid) == 10);
     holds(&rt, hold(&mut places, 90));

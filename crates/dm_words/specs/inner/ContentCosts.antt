@@ -2,11 +2,7 @@
 -- codewords of the mark and of all that follows it.
 use Rattle.std.specs.Prelude.{◌≡◌, ℕ, ◌+◌, ◌-◌, ◌<◌, ◌≤◌, List, [], ◌∷◌, ◌++◌, length, take, drop, get_or, Option}
 use Rattle.std.specs.Prelude.{Some, None}
-use Rattle.std.specs.Prelude.{Result, Ok, Err, All, true}
-use Rattle.dm_layout.specs.declared.symbols.size.SizeChoice.{SizeChoice}
-use Rattle.dm_layout.specs.symbols.Sizes.{SizeEntry, size_table, takes, area}
 use Rattle.dm_words.specs.declared.extent.Extent.TheVariants.{Wide}
-use Rattle.dm_words.specs.declared.fault.TooLong.{TooLong}
 use Rattle.dm_words.specs.declared.item.Item.{Item}
 use Rattle.dm_words.specs.declared.codeword.Codeword.TheVariants as codeword
 use Rattle.dm_words.specs.declared.contents.head.Head.{Head}
@@ -18,7 +14,6 @@ use Rattle.dm_words.specs.Contents.{ContentView, AreMarks, Said, IsContentPart, 
 use Rattle.dm_words.specs.ContentForm.{mark_words}
 use Rattle.dm_words.specs.Macros.{macro_text, BeginsFnc1}
 use Rattle.dm_words.specs.Plain.{IsPlainSaid}
-use Rattle.dm_words.specs.Smallest.{IsTaken}
 use Rattle.dm_words.specs.inner.Costs.{at_end, before_words, parts_cost}
 use Rattle.dm_words.specs.inner.Ways.{IsMacroOf, inner_text}
 use Rattle.dm_words.specs.inner.Written.{NoUnlatchFirst}
@@ -99,15 +94,3 @@ pub record AreSaid (total : ℕ) (base new : List ℕ) (seen : ℕ) (items : Lis
       → AreJoined (IsContentPart Wide) (length base + 1) parts after
   pub plain : (after : List ℕ) → length new + length after ≡ total → NoUnlatchFirst after
       → AreJoined IsPlainSaid (length base + 1) parts after
-
--- A size of a choice is the least one that has at least so many data codewords.
-pub record IsLeastSize (choice : SizeChoice) (cost : ℕ) (size : SizeEntry) : Type 0 where
-  pub taken : IsTaken choice size
-  pub smallest : All (λ other. takes choice other ≡ true → cost ≤ other.data_count → area size ≤ area other) size_table
-  pub narrowest : All (λ other. takes choice other ≡ true → cost ≤ other.data_count → area size ≡ area other
-      → size.columns ≤ other.columns) size_table
-
--- The size is the least one with so many data codewords, and the fault says that none has as many.
-abbrev pub IsSizeFor : SizeChoice → ℕ → Result SizeEntry TooLong → Type 0
-IsSizeFor choice cost (Ok size) = IsLeastSize choice cost size
-IsSizeFor choice cost (Err fault) = All (λ other. takes choice other ≡ true → other.data_count < cost) size_table

@@ -1,9 +1,10 @@
 -- What the private functions that read a content part by part give.
-use Rattle.std.specs.Prelude.{◌≡◌, ℕ, ◌+◌, ◌*◌, ◌≤◌, List, ◌++◌, length, drop, Option, Some, None, Result, Ok, Err}
+use Rattle.std.specs.Prelude.{◌≡◌, ℕ, ◌+◌, ◌*◌, ◌≤◌, List, ◌++◌, length, take, drop, Option, Some, None, Result, Ok}
+use Rattle.std.specs.Prelude.{Err}
 use Rattle.dm_words.specs.declared.extent.Extent.TheVariants.{Wide}
 use Rattle.dm_words.specs.declared.item.Item.{Item}
 use Rattle.dm_words.specs.declared.contents.fault.ContentFault.{ContentFault}
-use Rattle.dm_words.specs.declared.contents.head.Head.{Head}
+use Rattle.dm_words.specs.declared.contents.reading.Holding.{Holding}
 use Rattle.dm_words.specs.declared.contents.mark.Mark.{Mark}
 use Rattle.dm_words.specs.Contents.{ContentView, Said, AreMarks, AreContentParts, HaveContentFault, eci_count}
 use Rattle.dm_words.specs.Designations.{designation, designations}
@@ -14,7 +15,7 @@ use Rattle.dm_words.specs.inner.ContentScan.{with_said}
 -- A content with room for so many items has room for what the codewords from an index on say; the marks so far are in
 -- order, and no more than one for each two codewords before that index, or one for each ECI there.
 pub record IsContentAt (room : ℕ) (words : List ℕ) (at : ℕ) (so_far : ContentView) : Type 0 where
-  pub item_room : HasRoomAt room words at so_far.items
+  pub item_room : HasRoomAt room words at (length so_far.items)
   pub mark_room : 2 * length so_far.marks ≤ at
   pub eci_left : length so_far.marks + eci_count (drop at words) ≤ eci_count words
   pub in_order : AreMarks 0 (length so_far.items) so_far.marks
@@ -27,11 +28,12 @@ IsContentPartTaken (Ok None) old new step = (step ≡ Stops None) × (new ≡ ol
 IsContentPartTaken (Ok (Some n)) old new step = (said : Said) × (step ≡ Takes n said) × (new ≡ with_said old said)
 IsContentPartTaken (Err why) old new step = step ≡ Stops (Some why)
 
--- Where reading gives a head, its outcome is the content of this head and of the items and marks that were left;
--- otherwise it is the fault.
-abbrev pub headed_outcome : Result (Option Head) ContentFault → List Item → List Mark → Result ContentView ContentFault
-headed_outcome (Ok head) items marks = Ok (record { head = head; items = items; marks = marks })
-headed_outcome (Err why) items marks = Err why
+-- Where reading tells what the lists hold, its outcome is the content of the head and of the items and marks that they
+-- do; otherwise it is the fault.
+abbrev pub held_outcome : Result Holding ContentFault → List Item → List Mark → Result ContentView ContentFault
+held_outcome (Ok holding) items marks =
+    Ok (record { head = holding.head; items = take holding.items items; marks = take holding.marks marks })
+held_outcome (Err why) items marks = Err why
 
 -- A part with the given number of words was taken behind so many codewords, and its designator, if it is one, stands
 -- behind those that were there; or the end was met; or a fault.

@@ -46,21 +46,13 @@ first_lanes c t bytes rest = c.none ∷ c.one ∷ c.two ∷ t.none ∷ t.one ∷
 abbrev pub second_lanes : Pairs → Groups → List ℕ
 second_lanes x e = x.none ∷ x.one ∷ x.two ∷ e.none ∷ e.one ∷ e.two ∷ e.three ∷ 0 ∷ []
 
--- They lie in the first vector, and none is too great to grow.
-pub record AreFirst (c t : Pairs) (bytes rest : ℕ) (lanes : List ℕ) : Type 0 where
+-- They lie in the first vector, and none is greater than this: 40000 can grow over an item, and 39990 over two.
+pub record AreFirst (most : ℕ) (c t : Pairs) (bytes rest : ℕ) (lanes : List ℕ) : Type 0 where
   pub are : lanes ≡ first_lanes c t bytes rest
-  pub c40 : ArePaid 40000 c
-  pub text : ArePaid 40000 t
-  pub bytes_most : bytes ≤ 40000
-  pub rest_most : rest ≤ 40000
-
--- They lie in the first vector, and none is too great to grow twice.
-pub record AreNext (c t : Pairs) (bytes rest : ℕ) (lanes : List ℕ) : Type 0 where
-  pub are : lanes ≡ first_lanes c t bytes rest
-  pub c40 : ArePaid 39990 c
-  pub text : ArePaid 39990 t
-  pub bytes_most : bytes ≤ 39990
-  pub rest_most : rest ≤ 39990
+  pub c40 : ArePaid most c
+  pub text : ArePaid most t
+  pub bytes_most : bytes ≤ most
+  pub rest_most : rest ≤ most
 
 -- They lie in the second vector, and none is too great to grow.
 pub record AreSecond (x : Pairs) (e : Groups) (lanes : List ℕ) : Type 0 where

@@ -6,7 +6,10 @@ use Rattle.dm_words.specs.declared.extent.Extent.TheVariants.{Wide}
 use Rattle.dm_words.specs.declared.item.Item.{Item}
 use Rattle.dm_words.specs.declared.codeword.Codeword.TheVariants as codeword
 use Rattle.dm_words.specs.Codewords.{codeword_of}
+use Rattle.dm_words.specs.Contents.{ContentView}
 use Rattle.dm_words.specs.Macros.{macro_text, BeginsFnc1}
+use Rattle.dm_words.specs.Plain.{IsPlainForm}
+use Rattle.dm_words.specs.Smallest.{SaysThenPads}
 use Rattle.dm_words.specs.inner.Costs.{at_end, parts_cost}
 
 -- No way to write a message costs less: not its parts, nor the text of a macro and the macro itself, where FNC1 doesn't
@@ -45,3 +48,9 @@ IsWay extent items (Some word) cost =
 abbrev pub text_of : Option ℕ → List Item → List Item
 text_of None items = items
 text_of (Some word) items = inner_text items
+
+-- The words say the content in an extent and in the wide one, with pads behind them, as words that are written do.
+pub record AreWritten (extent : Extent) (words : List ℕ) (content : ContentView) : Type 0 where
+  pub says : SaysThenPads extent words content
+  pub wide : SaysThenPads Wide words content
+  pub form : IsPlainForm words content

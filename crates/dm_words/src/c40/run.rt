@@ -1,6 +1,6 @@
 //! Runs: a latch, pairs and an end.
 
-ghost use Rattle.std.specs.Prelude.{◌≡◌, ◌+◌, ◌*◌, ◌/◌, ◌^◌, ◌≤◌, ◌<◌, [], length, drop};
+ghost use Rattle.std.specs.Prelude.{◌≡◌, ◌+◌, ◌*◌, ◌/◌, ◌^◌, ◌≤◌, ◌<◌, length, take, drop};
 ghost use Rattle.dm_words.specs.RunFaults.{pair_place};
 ghost use Rattle.dm_words.specs.inner.Scan.Prefixes.{end_length, run_fault, run_behind};
 ghost use Rattle.dm_words.specs.inner.Scan.Results.{HasRoomAt, IsPartTaken};
@@ -10,9 +10,8 @@ use crate::c40::set::CodeSet;
 use crate::c40::value::{Rest, Spelled, read_values};
 use crate::extent::Extent;
 use crate::fault::WordFault;
+use crate::item::Item;
 use crate::limits::{MOST_VALUES, SHORT_RUN, SHORT_VALUES};
-use crate::message::MessageIn;
-use arrayvec::ArrayVec;
 use dm_layout::symbols::MOST_DATA;
 
 /// Gives the place of the pair that holds the value of an index, in a run whose latch stands at a place.
@@ -54,60 +53,49 @@ fn fault_of(
 }
 
 /// Takes the run whose latch stands at an index: adds its items to the message, and gives the number of its codewords.
-pub(crate) fn run_part<const ROOM: usize>(
+pub(crate) fn run_part(
     extent: Extent,
     set: CodeSet,
     words: &[u8],
     at: usize,
-    message: &mut MessageIn<ROOM>,
+    items: &mut [Item],
+    held: &mut usize,
 ) -> Result<usize, WordFault>
     requires in_range { at < length words.now }
     requires short { length words.now ≤ MOST_DATA }
-    requires room { HasRoomAt ROOM words.now at message.old }
-    ensures { IsPartTaken result message.old message.new
+    requires room { HasRoomAt (length items.old) words.now at held.old }
+    ensures taken { IsPartTaken result (take held.old items.old) (take held.new items.new)
         (run_behind extent set (at + 1) (drop (at + 1) words.now)) }
+    ensures within { held.new ≤ length items.new }
 {
     // To clear room for the values of a long run takes longer than to read a short one.
     if words.len() <= SHORT_RUN {
-        run_by(
-            extent,
-            set,
-            words,
-            at,
-            &mut ArrayVec::<u8, SHORT_VALUES>::new(),
-            message,
-        )
+        run_by(extent, set, words, at, &mut [0; SHORT_VALUES], items, held)
     } else {
-        run_by(
-            extent,
-            set,
-            words,
-            at,
-            &mut ArrayVec::<u8, MOST_VALUES>::new(),
-            message,
-        )
+        run_by(extent, set, words, at, &mut [0; MOST_VALUES], items, held)
     }
 }
 
-/// Does the same by way of a list of the values, which is empty.
-fn run_by<const VALUES: usize, const ROOM: usize>(
+/// Does the same by way of a list of the values.
+fn run_by(
     extent: Extent,
     set: CodeSet,
     words: &[u8],
     at: usize,
-    values: &mut ArrayVec<u8, VALUES>,
-    message: &mut MessageIn<ROOM>,
+    values: &mut [u8],
+    items: &mut [Item],
+    held: &mut usize,
 ) -> Result<usize, WordFault>
     requires in_range { at < length words.now }
     requires short { length words.now ≤ MOST_DATA }
-    requires empty { values.old.items ≡ [] }
-    requires values { 3 * length words.now ≤ 2 * VALUES }
-    requires room { HasRoomAt ROOM words.now at message.old }
-    ensures { IsPartTaken result message.old message.new
+    requires values { 3 * length words.now ≤ 2 * length values.old }
+    requires room { HasRoomAt (length items.old) words.now at held.old }
+    ensures taken { IsPartTaken result (take held.old items.old) (take held.new items.new)
         (run_behind extent set (at + 1) (drop (at + 1) words.now)) }
+    ensures within { held.new ≤ length items.new }
 {
     let pairs = pairs_to(&words[at + 1..], values);
-    let spelled = read_values(set, values.as_slice(), message);
+    let spelled = read_values(set, &values[..pairs.value_count], items, held);
     match fault_of(extent, at as u16 + 1, pairs.word_count, pairs.end, spelled) {
         Some(fault) => Err(fault),
         None => Ok(1 + pairs.word_count + end_length(pairs.end)),

@@ -1,14 +1,14 @@
 //! The values of a run, and the items that they spell.
 
-ghost use Rattle.std.specs.Prelude.{◌≡◌, ◌+◌, ◌≤◌, ◌++◌, length, drop, All};
+ghost use Rattle.std.specs.Prelude.{◌≡◌, ◌+◌, ◌≤◌, ◌++◌, length, take, drop, All};
 ghost use Rattle.dm_words.specs.inner.Scan.Prefixes.{first_spelling, first_raised, items_in};
 ghost use Rattle.dm_words.specs.Values.{IsRunValue};
 ghost use Rattle.dm_words.specs.inner.Scan.Results.{GivesItem};
 
 use crate::c40::set::{Basic, CodeSet, Shifted, basic_meaning, shifted_meaning};
+use crate::held::add;
 use crate::item::Item;
 use crate::limits::MOST_VALUES;
-use crate::message::MessageIn;
 use crate::numbers::number_at;
 
 /// What follows the last whole spelling.
@@ -87,24 +87,27 @@ pub struct Spelled {
 }
 
 /// Adds the items that the values spell to the message, up to the first rest.
-pub(crate) fn read_values<const ROOM: usize>(
+pub(crate) fn read_values(
     set: CodeSet,
     values: &[u8],
-    message: &mut MessageIn<ROOM>,
+    items: &mut [Item],
+    held: &mut usize,
 ) -> Spelled
     requires small { All IsRunValue values.now }
     requires few { length values.now ≤ MOST_VALUES }
-    requires room { length message.old + length values.now ≤ ROOM }
-    ensures items { message.new ≡ message.old ++ (items_in set values.now).taken }
+    requires room { held.old + length values.now ≤ length items.old }
+    ensures items { take held.new items.new
+        ≡ take held.old items.old ++ (items_in set values.now).taken }
     ensures value_count { result.value_count ≡ (items_in set values.now).place }
     ensures rest { result.rest ≡ (items_in set values.now).why }
-    ensures within { result.value_count ≤ length values.now }
+    ensures few { result.value_count ≤ length values.now }
+    ensures within { held.new ≤ length items.new }
 {
     let mut at = 0;
     loop {
         match spelling_at(set, values, at) {
             Spelling::Takes(count, item) => {
-                message.add(item);
+                add(item, items, held);
                 at += count;
             }
             Spelling::Stops(rest) => return Spelled {

@@ -7,43 +7,36 @@ ghost use Rattle.dm_words.specs.Contents.{IsContent, AreMarks, with_mark};
 use crate::contents::designator::MOST_ASSIGNED;
 use crate::contents::head::Head;
 use crate::contents::mark::{Mark, add_mark};
+use crate::held::add;
 use crate::item::Item;
 use crate::limits::{LARGEST_ROOM, MESSAGE_ROOM, MOST_MARKS};
-use crate::message::MessageIn;
-use arrayvec::ArrayVec;
+use std::fmt;
 use std::marker::Model;
 
 /// A head or none, items, and marks: at most `ROOM` items and `MARKS` marks, in order, each at a place of the items. In
 /// contracts it is the `ContentView` (`specs/Contents.antt`). What a symbol of any shape says has at most
 /// [`LARGEST_ROOM`] items and [`LARGEST_MARKS`](crate::LARGEST_MARKS) marks.
-#[derive(Clone, Debug, Drop, PartialEq, Eq)]
+#[derive(Clone, Drop)]
 pub struct ContentIn<const ROOM: usize, const MARKS: usize> {
     pub(crate) head: Option<Head>,
-    pub(crate) message: MessageIn<ROOM>,
-    pub(crate) marks: ArrayVec<Mark, MARKS>,
+    pub(crate) items: [Item; ROOM],
+    pub(crate) held: usize,
+    pub(crate) marks: [Mark; MARKS],
+    pub(crate) marked: usize,
 }
 
 /// A content that has room for what each square says, up to the largest of 104 x 104.
 pub type Content = ContentIn<MESSAGE_ROOM, MOST_MARKS>;
 
 impl<const ROOM: usize, const MARKS: usize> Model for ContentIn<ROOM, MARKS> {
-    ghost use Rattle.std.specs.Prelude.{length};
-    ghost use Rattle.dm_words.specs.Heads.{IsHead};
-    ghost use Rattle.dm_words.specs.Contents.{ContentView, AreMarks};
+    ghost use Rattle.dm_words.specs.Contents.{ContentView};
+    ghost use Rattle.dm_words.specs.inner.Held.{held_content, IsHeld};
 
     ghost Value = { ContentView };
 
-    ghost view = { λ l. record { head = l.head; items = l.message; marks = l.marks.items } };
+    ghost view = { λ l. held_content l.head l.held l.items l.marked l.marks };
 
-    // That the items have bytes of 0 to 255 is known of each message.
-    ghost invariant = { λ l. IsHead l.head
-        × AreMarks 0 (length l.message) l.marks.items };
-
-    ghost inverse = { λ v. record {
-      head = v.head;
-      message = v.items;
-      marks = record { items = v.marks };
-    } };
+    ghost invariant = { λ l. IsHeld ROOM MARKS l.head l.held l.items l.marked l.marks };
 }
 
 impl<const ROOM: usize, const MARKS: usize> ContentIn<ROOM, MARKS> {
@@ -53,8 +46,13 @@ impl<const ROOM: usize, const MARKS: usize> ContentIn<ROOM, MARKS> {
     {
         ContentIn {
             head: None,
-            message: MessageIn::new(),
-            marks: ArrayVec::new(),
+            items: [Item::Fnc1; ROOM],
+            held: 0,
+            marks: [Mark {
+                place: 0,
+                number: 0,
+            }; MARKS],
+            marked: 0,
         }
     }
 
@@ -62,9 +60,11 @@ impl<const ROOM: usize, const MARKS: usize> ContentIn<ROOM, MARKS> {
     pub fn clear(&mut self)
         ensures { self.new ≡ record { head = None; items = []; marks = [] } }
     {
+        // For the proof alone, which has to be told of items.
+        let _items = self.items();
         self.head = None;
-        self.message.clear();
-        self.marks.clear();
+        self.held = 0;
+        self.marked = 0;
     }
 
     /// Gives the content this head, or none. [`Appended::is_right()`](crate::Appended::is_right) says whether the
@@ -73,6 +73,8 @@ impl<const ROOM: usize, const MARKS: usize> ContentIn<ROOM, MARKS> {
         requires { IsHead head }
         ensures { self.new ≡ record self.old { head = head } }
     {
+        // For the proof alone, which has to be told of items.
+        let _items = self.items();
         self.head = head;
     }
 
@@ -84,7 +86,11 @@ impl<const ROOM: usize, const MARKS: usize> ContentIn<ROOM, MARKS> {
         ensures unchanged { OnErr result (self.new ≡ self.old) }
         ensures given_back { IfErr result (λ i. i ≡ item) }
     {
-        self.message.push(item)
+        if self.held == ROOM {
+            return Err(item);
+        }
+        add(item, &mut self.items[..], &mut self.held);
+        Ok(())
     }
 
     /// Adds a mark of this number, 0 to 999999, behind all items that are there, in a content with room for at most
@@ -97,10 +103,11 @@ impl<const ROOM: usize, const MARKS: usize> ContentIn<ROOM, MARKS> {
         ensures unchanged { OnErr result (self.new ≡ self.old) }
         ensures given_back { IfErr result (λ n. n ≡ number) }
     {
-        if self.marks.is_full() {
+        if self.marked == MARKS {
             return Err(number);
         }
-        add_mark(number, &self.message, &mut self.marks);
+        let items = &self.items[..self.held];
+        add_mark(number, items, &mut self.marks[..], &mut self.marked);
         Ok(())
     }
 
@@ -109,6 +116,8 @@ impl<const ROOM: usize, const MARKS: usize> ContentIn<ROOM, MARKS> {
         ensures value { result ≡ self.now.head }
         ensures right { IsHead result }
     {
+        // For the proof alone, which has to be told of items and of marks.
+        let (_items, _marks) = (self.items(), self.marks());
         self.head
     }
 
@@ -118,7 +127,7 @@ impl<const ROOM: usize, const MARKS: usize> ContentIn<ROOM, MARKS> {
         ensures most { length self.now.items ≤ ROOM }
         ensures content { IsContent self.now }
     {
-        self.message.items()
+        &self.items[..self.held]
     }
 
     /// Gives the marks, in order: at most `MARKS`.
@@ -127,7 +136,7 @@ impl<const ROOM: usize, const MARKS: usize> ContentIn<ROOM, MARKS> {
         ensures most { length self.now.marks ≤ MARKS }
         ensures in_order { AreMarks 0 (length self.now.items) self.now.marks }
     {
-        self.marks.as_slice()
+        &self.marks[..self.marked]
     }
 }
 
@@ -137,4 +146,29 @@ impl<const ROOM: usize, const MARKS: usize> Default for ContentIn<ROOM, MARKS> {
     fn default() -> Self {
         ContentIn::new()
     }
+}
+
+impl<const ROOM: usize, const MARKS: usize> fmt::Debug for ContentIn<ROOM, MARKS> {
+    fn fmt<W: fmt::Write>(&self, f: &mut fmt::Formatter<W>) -> fmt::Result {
+        (self.head, self.items(), self.marks()).fmt(f)
+    }
+}
+
+impl<const ROOM: usize, const MARKS: usize> PartialEq for ContentIn<ROOM, MARKS> {
+    ghost use Rattle.std.specs.Cmp.{partial_equiv_from_equiv};
+    ghost use Rattle.dm_words.specs.Equality.{equal_contents, contents_equiv};
+
+    ghost eq = { equal_contents };
+
+    ghost laws = { partial_equiv_from_equiv contents_equiv };
+
+    fn eq(&self, other: &Self) -> bool {
+        self.head == other.head && self.items() == other.items() && self.marks() == other.marks()
+    }
+}
+
+impl<const ROOM: usize, const MARKS: usize> Eq for ContentIn<ROOM, MARKS> {
+    ghost use Rattle.dm_words.specs.Equality.{contents_equiv};
+
+    ghost laws = { contents_equiv };
 }

@@ -13,22 +13,21 @@ use crate::contents::fault::ContentFault;
 use crate::contents::mark::Mark;
 use crate::contents::opening::opening_of;
 use crate::extent::Extent;
-use crate::limits::LARGEST_ROOM;
-use crate::message::MessageIn;
+use crate::item::Item;
+use crate::limits::{LARGEST_MARKS, LARGEST_ROOM};
 use crate::numbers::number_at;
 use crate::reading::next_part;
 use arrayvec::ArrayVec;
 use dm_layout::symbols::MOST_DATA;
 
 /// Takes the designator whose ECI stands at an index: adds it, and gives the number of its codewords and ECI.
-fn designator_part<const MARKS: usize>(
+fn designator_part(
     words: &[u8],
     at: usize,
-    found: &mut ArrayVec<Mark, MARKS>,
+    found: &mut ArrayVec<Mark, LARGEST_MARKS>,
 ) -> Result<Option<usize>, ContentFault>
     requires in_range { at < length words.now }
     requires short { length words.now ≤ MOST_DATA }
-    requires marks { length words.now ≤ 2 * MARKS }
     requires few { 2 * length found.old.items ≤ at }
     ensures { IsDesignationTaken result at found.old.items found.new.items
         (mark_by (at + 1) (first_designator (drop (at + 1) words.now))) }
@@ -46,11 +45,11 @@ fn designator_part<const MARKS: usize>(
 }
 
 /// Passes over the part at an index, which has no designator: gives the number of its codewords; `None` at the end.
-/// `message` is room for its items.
+/// `items` is room for its items.
 fn other_part(
     words: &[u8],
     at: usize,
-    message: &mut MessageIn<LARGEST_ROOM>,
+    items: &mut [Item; LARGEST_ROOM],
 ) -> Result<Option<usize>, ContentFault>
     requires in_range { at ≤ length words.now }
     requires short { length words.now ≤ MOST_DATA }
@@ -58,8 +57,7 @@ fn other_part(
     ensures { (before : ℕ) (found : List Mark) → IsDesignationTaken result before found found
         (first_content_part Extent.Wide (at + 1) (drop at words.now)) }
 {
-    message.clear();
-    match next_part(Extent::Wide, words, at, message) {
+    match next_part(Extent::Wide, words, at, &mut items[..], &mut 0) {
         Ok(count) => Ok(count),
         Err(fault) => Err(ContentFault::Word(fault)),
     }
@@ -67,40 +65,38 @@ fn other_part(
 
 /// Takes the part at an index: adds its designator, if it is one, and gives the number of its codewords; `None` at the
 /// end.
-fn next_designation<const MARKS: usize>(
+fn next_designation(
     words: &[u8],
     at: usize,
-    message: &mut MessageIn<LARGEST_ROOM>,
-    found: &mut ArrayVec<Mark, MARKS>,
+    items: &mut [Item; LARGEST_ROOM],
+    found: &mut ArrayVec<Mark, LARGEST_MARKS>,
 ) -> Result<Option<usize>, ContentFault>
     requires in_range { at ≤ length words.now }
     requires short { length words.now ≤ MOST_DATA }
-    requires marks { length words.now ≤ 2 * MARKS }
     requires few { 2 * length found.old.items ≤ at }
     ensures { IsDesignationTaken result at found.old.items found.new.items
         (first_content_part Extent.Wide (at + 1) (drop at words.now)) }
 {
     match number_at(words, at) {
         Some(ECI) => designator_part(words, at, found),
-        _ => other_part(words, at, message),
+        _ => other_part(words, at, items),
     }
 }
 
 /// Adds the designators among all parts from an index on, up to the end.
-fn add_designations<const MARKS: usize>(
+fn add_designations(
     words: &[u8],
     start: usize,
-    message: &mut MessageIn<LARGEST_ROOM>,
-    found: &mut ArrayVec<Mark, MARKS>,
+    items: &mut [Item; LARGEST_ROOM],
+    found: &mut ArrayVec<Mark, LARGEST_MARKS>,
 ) -> Result<(), ContentFault>
     requires in_range { start ≤ length words.now }
     requires short { length words.now ≤ MOST_DATA }
-    requires marks { length words.now ≤ 2 * MARKS }
     requires none { found.old.items ≡ [] }
     ensures { AreDesignationsFrom result start words.now found.new.items }
 {
     let mut at = start;
-    while let Some(count) = next_designation(words, at, message, found)? {
+    while let Some(count) = next_designation(words, at, items, found)? {
         at += count;
     }
     Ok(())
@@ -139,17 +135,16 @@ pub fn has_eci(words: &[u8]) -> bool
 /// counts the codewords before its ECI, which is the codeword 241; behind that the one to three codewords of the
 /// designator stand. A 241 in a head, a run, a segment or a designator, or behind the first pad, is none. ISO/IEC
 /// 16022, ECI encodation.
-pub fn designations_to<const MARKS: usize>(words: &[u8], found: &mut ArrayVec<Mark, MARKS>)
+pub fn designations_to(words: &[u8], found: &mut ArrayVec<Mark, LARGEST_MARKS>)
     requires short { length words.now ≤ MOST_DATA }
-    requires marks { length words.now ≤ 2 * MARKS }
     ensures { AreDesignations words.now found.new.items }
 {
     found.clear();
     let Some(opened) = opening_of(Extent::Wide, words) else {
         return;
     };
-    let mut message = MessageIn::new();
-    match add_designations(words, opened.count, &mut message, found) {
+    let mut items = [Item::Fnc1; LARGEST_ROOM];
+    match add_designations(words, opened.count, &mut items, found) {
         Ok(()) => {}
         Err(_) => found.clear(),
     }

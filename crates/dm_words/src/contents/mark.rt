@@ -1,10 +1,10 @@
 //! Marks: ECI assignments at places of the items.
 
-ghost use Rattle.std.specs.Prelude.{◌≡◌, ◌<◌, ◌≤◌, ◌++◌, ◌∷◌, [], length};
+ghost use Rattle.std.specs.Prelude.{◌≡◌, ◌<◌, ◌≤◌, ◌++◌, ◌∷◌, [], length, take};
 
+use crate::held::add;
+use crate::item::Item;
 use crate::limits::LARGEST_ROOM;
-use crate::message::MessageIn;
-use arrayvec::ArrayVec;
 
 /// An ECI assignment (ISO/IEC 16022, ECI encodation), which holds from its place on. There is a default since
 /// `ArrayVec` asks for one.
@@ -16,17 +16,14 @@ pub struct Mark {
     pub number: u32,
 }
 
-/// Adds a mark behind all items of the message, where there is room.
-pub(crate) fn add_mark<const ROOM: usize, const MARKS: usize>(
-    number: u32,
-    message: &MessageIn<ROOM>,
-    marks: &mut ArrayVec<Mark, MARKS>,
-)
-    requires most { ROOM ≤ LARGEST_ROOM }
-    requires room { length marks.old.items < MARKS }
-    ensures { marks.new.items ≡ marks.old.items
-        ++ record { place = length message.now; number = number } ∷ [] }
+/// Adds a mark behind these items to a list that holds so many.
+pub(crate) fn add_mark(number: u32, items: &[Item], marks: &mut [Mark], marked: &mut usize)
+    requires most { length items.now ≤ LARGEST_ROOM }
+    requires room { marked.old < length marks.old }
+    ensures added { take marked.new marks.new ≡ take marked.old marks.old
+        ++ record { place = length items.now; number = number } ∷ [] }
+    ensures within { marked.new ≤ length marks.new }
 {
-    let place = message.items().len() as u16;
-    marks.push(Mark { place, number });
+    let place = items.len() as u16;
+    add(Mark { place, number }, marks, marked);
 }

@@ -9,15 +9,14 @@ ghost use Rattle.dm_words.specs.Contents.{AreMarks};
 ghost use Rattle.dm_words.specs.ContentForm.{ascii_with_marks};
 ghost use Rattle.dm_words.specs.Messages.{IsMessage};
 ghost use Rattle.dm_words.specs.Pads.{padded};
-ghost use Rattle.dm_words.specs.Plain.{IsPlainForm};
-ghost use Rattle.dm_words.specs.SmallestContents.{IsSmallestContentResult, SaysThenPads};
+ghost use Rattle.dm_words.specs.Smallest.{IsSmallestContentResult};
 ghost use Rattle.dm_words.specs.inner.Costs.{before_words, parts_cost, most_behind};
 ghost use Rattle.dm_words.specs.inner.ContentCosts.{view_of, marked_cost, AreBehind, IsLeastContentCost, IsContentWay};
 ghost use Rattle.dm_words.specs.inner.ContentCosts.{IsContentMacro, HasNoContentMacro, AreSaid, seen_by};
 ghost use Rattle.dm_words.specs.inner.ContentCosts.{first_text};
 ghost use Rattle.dm_words.specs.inner.MarkedForms.{is_plain};
 ghost use Rattle.dm_words.specs.inner.Signs.{KeepsSign};
-ghost use Rattle.dm_words.specs.inner.Ways.{text_of};
+ghost use Rattle.dm_words.specs.inner.Ways.{AreWritten, text_of};
 ghost use Rattle.dm_words.specs.inner.Written.{ArePartsWritten};
 
 use crate::contents::head::{Head, head_words};
@@ -213,14 +212,14 @@ fn content_macro(head: Option<Head>, items: &[Item], marks: &[Mark]) -> Option<u
 
 /// Writes a content, without pads, for a symbol of `count` data codewords: in ASCII where there is room for that, and
 /// else in this way.
-fn write_content<const N: usize>(
+fn write_content(
     head: Option<Head>,
     items: &[Item],
     marks: &[Mark],
     way: Way,
     behind: &[u16],
     plan: &mut [StepBits],
-    words: &mut ArrayVec<u8, N>,
+    words: &mut ArrayVec<u8, MOST_DATA>,
     count: u16,
 )
     requires head { IsHead head }
@@ -233,13 +232,11 @@ fn write_content<const N: usize>(
     requires behinds { length marks.now ≤ length behind.now }
     requires steps { length items.now < length plan.old }
     requires room { way.cost ≤ count }
-    requires count { count ≤ N }
-    requires most { N ≤ MOST_DATA }
-    ensures says { SaysThenPads Wide (padded words.new.items count) (view_of head items.now marks.now) }
+    requires count { count ≤ MOST_DATA }
+    ensures written { AreWritten Wide (padded words.new.items count) (view_of head items.now marks.now) }
     ensures fits { length words.new.items ≤ count }
     ensures ascii { length (head_words head ++ ascii_with_marks 0 items.now marks.now) ≤ count
         → words.new.items ≡ head_words head ++ ascii_with_marks 0 items.now marks.now }
-    ensures form { IsPlainForm (padded words.new.items count) (view_of head items.now marks.now) }
 {
     let length = head_words_length(head) + marked_length(items, marks);
     let total = usize::from(count);
@@ -269,13 +266,13 @@ fn write_content<const N: usize>(
 }
 
 /// Writes items with marks behind the words that stand there, where so many items stand before them.
-fn write_texts<const N: usize>(
+fn write_texts(
     seen: usize,
     items: &[Item],
     marks: &[Mark],
     behind: &[u16],
     plan: &mut [StepBits],
-    words: &mut ArrayVec<u8, N>,
+    words: &mut ArrayVec<u8, MOST_DATA>,
     total: usize,
 )
     requires few { length items.now ≤ LARGEST_ROOM }
@@ -286,8 +283,7 @@ fn write_texts<const N: usize>(
     requires behinds { length marks.now ≤ length behind.now }
     requires steps { length items.now < length plan.old }
     requires budget { length words.old.items + marked_cost seen items.now marks.now ≤ total }
-    requires total { total ≤ N }
-    requires most { N ≤ MOST_DATA }
+    requires total { total ≤ MOST_DATA }
     ensures said { AreSaid total words.old.items words.new.items seen items.now marks.now }
     ensures fits { length words.new.items ≤ total }
     ensures sign { KeepsSign words.old.items words.new.items (first_text seen items.now marks.now) }
@@ -303,11 +299,11 @@ fn write_texts<const N: usize>(
 }
 
 /// Writes items behind the words that stand there, where so many codewords follow them.
-fn write_text<const N: usize>(
+fn write_text(
     behind: u16,
     items: &[Item],
     plan: &mut [StepBits],
-    words: &mut ArrayVec<u8, N>,
+    words: &mut ArrayVec<u8, MOST_DATA>,
     total: usize,
 )
     requires few { length items.now ≤ LARGEST_ROOM }
@@ -315,8 +311,7 @@ fn write_text<const N: usize>(
     requires message { IsMessage items.now }
     requires steps { length items.now < length plan.old }
     requires budget { length words.old.items + parts_cost (before_words behind) items.now ≤ total }
-    requires total { total ≤ N }
-    requires most { N ≤ MOST_DATA }
+    requires total { total ≤ MOST_DATA }
     ensures parts { ArePartsWritten Wide total words.old.items words.new.items items.now }
     ensures fits { length words.new.items + behind ≤ total }
     ensures sign { KeepsSign words.old.items words.new.items items.now }

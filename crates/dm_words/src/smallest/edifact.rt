@@ -32,10 +32,10 @@ pub enum Group {
 }
 
 /// Adds a value of a run behind those that stand, and gives those that stand then. A whole group is written.
-fn push_value<const N: usize>(group: Group, value: u8, words: &mut ArrayVec<u8, N>) -> Group
+fn push_value(group: Group, value: u8, words: &mut ArrayVec<u8, MOST_DATA>) -> Group
     requires small { value < 64 }
     requires group { IsSmallGroup group }
-    requires room { length words.old.items + whole_words group ≤ N }
+    requires room { length words.old.items + whole_words group ≤ MOST_DATA }
     ensures { IsGroupPushed group words.old.items value result words.new.items }
 {
     match group {
@@ -63,11 +63,10 @@ fn goes_on(group: Group, step: &StepBits) -> bool
 }
 
 /// Ends a run: with an unlatch as the fourth value of a group, or by itself where more than two codewords are left.
-fn end_run<const N: usize>(group: Group, words: &mut ArrayVec<u8, N>, total: usize)
+fn end_run(group: Group, words: &mut ArrayVec<u8, MOST_DATA>, total: usize)
     requires group { IsSmallGroup group }
     requires room { length words.old.items + length (waiting_values group) ≤ total }
-    requires total { total ≤ N }
-    requires most { N ≤ MOST_DATA }
+    requires total { total ≤ MOST_DATA }
     ensures { IsEdifactEnded group total words.old.items words.new.items }
 {
     if let Group::Empty = group {
@@ -80,12 +79,12 @@ fn end_run<const N: usize>(group: Group, words: &mut ArrayVec<u8, N>, total: usi
 }
 
 /// Writes a run, and gives the index behind it.
-pub(crate) fn write_edifact<const N: usize>(
+pub(crate) fn write_edifact(
     setting: Setting,
     items: &[Item],
     at: usize,
     plan: &[StepBits],
-    words: &mut ArrayVec<u8, N>,
+    words: &mut ArrayVec<u8, MOST_DATA>,
     total: usize,
 ) -> usize
     requires at { at < length items.now }
@@ -94,8 +93,7 @@ pub(crate) fn write_edifact<const N: usize>(
     requires plan { IsRightPlan setting items.now plan.now }
     requires budget { length words.old.items + 1
         + (going_from setting (drop at items.now)).edifact.none ≤ total }
-    requires total { total ≤ N }
-    requires most { N ≤ MOST_DATA }
+    requires total { total ≤ MOST_DATA }
     ensures further { at < result }
     ensures within { result ≤ length items.now }
     ensures budget { length words.new.items + parts_cost setting (drop result items.now) ≤ total }

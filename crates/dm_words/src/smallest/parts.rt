@@ -28,12 +28,12 @@ struct Written {
 }
 
 /// Writes the part that begins at an item.
-fn write_part<const N: usize>(
+fn write_part(
     setting: Setting,
     items: &[Item],
     at: usize,
     plan: &[StepBits],
-    words: &mut ArrayVec<u8, N>,
+    words: &mut ArrayVec<u8, MOST_DATA>,
     total: usize,
 ) -> Written
     requires at { at < length items.now }
@@ -43,8 +43,7 @@ fn write_part<const N: usize>(
     requires behind { setting.behind ≤ most_behind }
     requires plan { IsRightPlan setting items.now plan.now }
     requires budget { length words.old.items + parts_cost setting (drop at items.now) ≤ total }
-    requires total { total ≤ N }
-    requires most { N ≤ MOST_DATA }
+    requires total { total ≤ MOST_DATA }
     ensures further { at < result.next }
     ensures within { result.next ≤ length items.now }
     ensures budget { length words.new.items + parts_cost setting (drop result.next items.now)
@@ -99,11 +98,11 @@ fn write_part<const N: usize>(
 }
 
 /// Writes the parts of a plan behind the words that stand there, and says whether the usual extent has them all.
-pub(crate) fn write_parts<const N: usize>(
+pub(crate) fn write_parts(
     setting: Setting,
     items: &[Item],
     plan: &[StepBits],
-    words: &mut ArrayVec<u8, N>,
+    words: &mut ArrayVec<u8, MOST_DATA>,
     total: usize,
 ) -> bool
     requires few { length items.now ≤ LARGEST_ROOM }
@@ -112,8 +111,7 @@ pub(crate) fn write_parts<const N: usize>(
     requires behind { setting.behind ≤ most_behind }
     requires plan { IsRightPlan setting items.now plan.now }
     requires budget { length words.old.items + parts_cost setting items.now ≤ total }
-    requires total { total ≤ N }
-    requires most { N ≤ MOST_DATA }
+    requires total { total ≤ MOST_DATA }
     ensures parts { ArePartsWritten setting.extent total words.old.items words.new.items items.now }
     ensures usual { IsTrue result
         → ArePartsWritten Usual total words.old.items words.new.items items.now }

@@ -9,7 +9,7 @@ ghost use Rattle.dm_words.specs.inner.Costs.{unit_cost, set_values, has_edifact,
 ghost use Rattle.dm_words.specs.inner.Costs.{with_ascii, none_going, rest_behind};
 ghost use Rattle.dm_words.specs.inner.Costs.{IsWithin, AreSmall};
 ghost use Rattle.dm_words.specs.inner.CostLanes.{read_edifact, one_or_two};
-ghost use Rattle.dm_words.specs.inner.CostLanes.{AreNext, end_lanes, limit_lanes, set_bits};
+ghost use Rattle.dm_words.specs.inner.CostLanes.{end_lanes, limit_lanes, set_bits};
 ghost use Rattle.dm_words.specs.inner.CostLanes.{first_lanes, second_lanes, AreFirst, AreSecond, HasRow, HasGoing};
 
 use crate::extent::Extent;
@@ -56,7 +56,7 @@ const SECOND_SETS: [u16; 8] = [4, 4, 4, 8, 8, 8, 8, 0];
 /// Gives the first costs before a byte that is one value in C40 and in Text, from those behind it.
 #[inline]
 fn first_over_one(next: Simd<u16, 8>) -> Simd<u16, 8>
-    ensures { (c t : Pairs) (bytes rest : ℕ) → AreFirst c t bytes rest next
+    ensures { (c t : Pairs) (bytes rest : ℕ) → AreFirst 40000 c t bytes rest next
         → result ≡ first_lanes (values_before 1 c) (values_before 1 t) (1 + bytes) (1 + rest) }
 {
     next.swizzle([1, 2, 0, 4, 5, 3, 6, 7]) + u16x8::from_array([2, 0, 0, 2, 0, 0, 1, 1])
@@ -65,7 +65,7 @@ fn first_over_one(next: Simd<u16, 8>) -> Simd<u16, 8>
 /// Gives the first costs before a byte that is two values in C40 and in Text, from those behind it.
 #[inline]
 fn first_over_two(next: Simd<u16, 8>) -> Simd<u16, 8>
-    ensures { (c t : Pairs) (bytes rest : ℕ) → AreFirst c t bytes rest next
+    ensures { (c t : Pairs) (bytes rest : ℕ) → AreFirst 40000 c t bytes rest next
         → result ≡ first_lanes (values_before 2 c) (values_before 2 t) (1 + bytes) (1 + rest) }
 {
     next.swizzle([2, 0, 1, 5, 3, 4, 6, 7]) + u16x8::from_array([2, 0, 2, 2, 0, 2, 1, 1])
@@ -75,7 +75,7 @@ fn first_over_two(next: Simd<u16, 8>) -> Simd<u16, 8>
 #[inline]
 fn first_over(sets: u16, next: Simd<u16, 8>) -> Simd<u16, 8>
     ensures { (c t : Pairs) (bytes rest : ℕ) (in_c40 in_text in_x12 in_edifact : Bool)
-        → sets ≡ set_bits in_c40 in_text in_x12 in_edifact → AreFirst c t bytes rest next
+        → sets ≡ set_bits in_c40 in_text in_x12 in_edifact → AreFirst 40000 c t bytes rest next
         → result ≡ first_lanes (values_before (one_or_two in_c40) c)
         (values_before (one_or_two in_text) t) (1 + bytes) (1 + rest) }
 {
@@ -85,7 +85,7 @@ fn first_over(sets: u16, next: Simd<u16, 8>) -> Simd<u16, 8>
 /// Gives the first costs before an Upper Shift, from those behind it.
 #[inline]
 fn first_raised(next: Simd<u16, 8>) -> Simd<u16, 8>
-    ensures { (c t : Pairs) (bytes rest : ℕ) → AreFirst c t bytes rest next
+    ensures { (c t : Pairs) (bytes rest : ℕ) → AreFirst 40000 c t bytes rest next
         → result ≡ first_lanes (values_before 2 c) (values_before 2 t) bytes rest }
 {
     next.swizzle([2, 0, 1, 5, 3, 4, 6, 7]) + u16x8::from_array([2, 0, 2, 2, 0, 2, 0, 0])
@@ -94,7 +94,7 @@ fn first_raised(next: Simd<u16, 8>) -> Simd<u16, 8>
 /// Gives the first costs before FNC1, from those behind it.
 #[inline]
 fn first_over_fnc1(next: Simd<u16, 8>) -> Simd<u16, 8>
-    ensures { (c t : Pairs) (bytes rest : ℕ) → AreFirst c t bytes rest next
+    ensures { (c t : Pairs) (bytes rest : ℕ) → AreFirst 40000 c t bytes rest next
         → result ≡ first_lanes (values_before 2 c) (values_before 2 t) never never }
 {
     next.shuffle(u16x8::splat(NEVER), [2, 0, 1, 5, 3, 4, 8, 8])
@@ -137,7 +137,7 @@ fn second_over(extent: Extent, sets: u16, next: Simd<u16, 8>) -> Simd<u16, 8>
 /// Gives the first costs before a byte, from those behind it.
 #[inline]
 fn first_over_byte(byte: u8, next: Simd<u16, 8>) -> Simd<u16, 8>
-    ensures { (c t : Pairs) (bytes rest : ℕ) → AreNext c t bytes rest next
+    ensures { (c t : Pairs) (bytes rest : ℕ) → AreFirst 39990 c t bytes rest next
         → result ≡ first_lanes (stay (set_values C40 (Item.Byte byte)) c)
         (stay (set_values Text (Item.Byte byte)) t) (1 + bytes) (1 + rest) }
 {

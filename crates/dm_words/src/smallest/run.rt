@@ -73,10 +73,10 @@ impl Part {
 }
 
 /// Adds a value of a run behind those that stand, and gives those that stand then. A whole pair is written.
-fn push_value<const N: usize>(part: Part, value: u8, words: &mut ArrayVec<u8, N>) -> Part
+fn push_value(part: Part, value: u8, words: &mut ArrayVec<u8, MOST_DATA>) -> Part
     requires small { value < 40 }
     requires part { IsSmallPart part }
-    requires room { length words.old.items + 2 * ((length (part_values part) + 1) / 3) ≤ N }
+    requires room { length words.old.items + 2 * ((length (part_values part) + 1) / 3) ≤ MOST_DATA }
     ensures { IsValuePushed part words.old.items value result words.new.items }
 {
     let number = 40 * part.number + u16::from(value);
@@ -92,11 +92,11 @@ fn push_value<const N: usize>(part: Part, value: u8, words: &mut ArrayVec<u8, N>
 }
 
 /// Adds values of a run.
-fn push_values<const N: usize>(part: Part, values: &[u8], words: &mut ArrayVec<u8, N>) -> Part
+fn push_values(part: Part, values: &[u8], words: &mut ArrayVec<u8, MOST_DATA>) -> Part
     requires small { All IsRunValue values.now }
     requires part { IsSmallPart part }
     requires few { length values.now ≤ 4 }
-    requires room { length words.old.items + 2 * ((length (part_values part) + length values.now) / 3) ≤ N }
+    requires room { length words.old.items + 2 * ((length (part_values part) + length values.now) / 3) ≤ MOST_DATA }
     ensures { ArePushed words.old.items (part_values part) values.now words.new.items result }
 {
     let mut part = part;
@@ -109,15 +109,10 @@ fn push_values<const N: usize>(part: Part, values: &[u8], words: &mut ArrayVec<u
 /// Adds the values of an item of a run, whatever they are. It stands by itself, so that where an item is one value no
 /// list is made.
 #[inline(never)]
-fn push_spelling<const N: usize>(
-    set: CodeSet,
-    item: Item,
-    part: Part,
-    words: &mut ArrayVec<u8, N>,
-) -> Part
+fn push_spelling(set: CodeSet, item: Item, part: Part, words: &mut ArrayVec<u8, MOST_DATA>) -> Part
     requires held { 0 < set_values set item }
     requires part { IsSmallPart part }
-    requires room { length words.old.items + 2 * ((length (part_values part) + set_values set item) / 3) ≤ N }
+    requires room { length words.old.items + 2 * ((length (part_values part) + set_values set item) / 3) ≤ MOST_DATA }
     ensures { IsItemPushed set item part words.old.items words.new.items result }
 {
     let values = values_of(set, item);
@@ -125,15 +120,10 @@ fn push_spelling<const N: usize>(
 }
 
 /// Adds the values of an item of a run.
-fn push_item<const N: usize>(
-    set: CodeSet,
-    item: Item,
-    part: Part,
-    words: &mut ArrayVec<u8, N>,
-) -> Part
+fn push_item(set: CodeSet, item: Item, part: Part, words: &mut ArrayVec<u8, MOST_DATA>) -> Part
     requires held { 0 < set_values set item }
     requires part { IsSmallPart part }
-    requires room { length words.old.items + 2 * ((length (part_values part) + set_values set item) / 3) ≤ N }
+    requires room { length words.old.items + 2 * ((length (part_values part) + set_values set item) / 3) ≤ MOST_DATA }
     ensures { IsItemPushed set item part words.old.items words.new.items result }
 {
     match one_value(set, item) {
@@ -151,13 +141,13 @@ fn goes_on(part: &Part, step: &StepBits, set: CodeSet) -> bool
 
 /// Writes a run, and gives the index behind it.
 #[inline(never)]
-pub(crate) fn write_run<const N: usize>(
+pub(crate) fn write_run(
     setting: Setting,
     items: &[Item],
     at: usize,
     set: CodeSet,
     plan: &[StepBits],
-    words: &mut ArrayVec<u8, N>,
+    words: &mut ArrayVec<u8, MOST_DATA>,
     total: usize,
 ) -> usize
     requires at { at < length items.now }
@@ -166,8 +156,7 @@ pub(crate) fn write_run<const N: usize>(
     requires plan { IsRightPlan setting items.now plan.now }
     requires budget { length words.old.items + 1
         + owed 0 (going_pairs set (going_from setting (drop at items.now))) ≤ total }
-    requires total { total ≤ N }
-    requires most { N ≤ MOST_DATA }
+    requires total { total ≤ MOST_DATA }
     ensures further { at < result }
     ensures within { result ≤ length items.now }
     ensures budget { length words.new.items + parts_cost setting (drop result items.now) ≤ total }

@@ -41,11 +41,10 @@ pub(crate) fn segment_end(setting: Setting, items: &[Item], at: usize, plan: &[S
 
 /// Writes the length field of a segment of `count` bytes: 0, for all bytes up to the end of the symbol, where they
 /// end there and the count would take two numbers.
-fn push_field<const N: usize>(words: &mut ArrayVec<u8, N>, count: usize, total: usize)
+fn push_field(words: &mut ArrayVec<u8, MOST_DATA>, count: usize, total: usize)
     requires some { 0 < count }
     requires room { length words.old.items + 1 + count ≤ total }
-    requires total { total ≤ N }
-    requires most { N ≤ MOST_DATA }
+    requires total { total ≤ MOST_DATA }
     ensures { IsFieldWritten total count words.old.items words.new.items }
 {
     if count > MOST_SHORT && words.len() + 1 + count == total {
@@ -56,17 +55,12 @@ fn push_field<const N: usize>(words: &mut ArrayVec<u8, N>, count: usize, total: 
 }
 
 /// Writes a segment of these bytes.
-pub(crate) fn write_segment<const N: usize>(
-    items: &[Item],
-    words: &mut ArrayVec<u8, N>,
-    total: usize,
-)
+pub(crate) fn write_segment(items: &[Item], words: &mut ArrayVec<u8, MOST_DATA>, total: usize)
     requires some { 0 < length items.now }
     requires bytes { has_fnc1 items.now ≡ false }
     requires message { IsMessage items.now }
     requires room { length words.old.items + 2 + length items.now ≤ total }
-    requires total { total ≤ N }
-    requires most { N ≤ MOST_DATA }
+    requires total { total ≤ MOST_DATA }
     ensures fits { length words.new.items ≤ total }
     ensures most { length words.new.items ≤ length words.old.items + 1
         + length (length_numbers (length items.now)) + length items.now }

@@ -1,20 +1,13 @@
 -- How symbols and codewords are kept: at the start of arrays that are large enough. The views and the invariants of
 -- their types cite this.
-use Rattle.std.specs.Prelude.{◌≡◌, ℕ, ◌-◌, ◌<◌, ◌≤◌, Bool, List, length, take, All, get_or, nat_lt, if◌then◌else◌}
+use Rattle.std.specs.Prelude.{◌≡◌, ℕ, ◌-◌, ◌≤◌, Bool, List, length, get_or, nat_lt, if◌then◌else◌}
 use Rattle.dm_layout.specs.symbols.Sizes.{SizeEntry, IsSize, codeword_count}
 use Rattle.dm_layout.specs.symbols.Symbols.{SymbolView, is_dark_bit, rows_by}
-use Rattle.dm_layout.specs.symbols.Words.{WordsView}
-
--- The codewords of a size that are kept in a list of bytes are the first of these bytes.
-abbrev pub kept_words : SizeEntry → List ℕ → WordsView
-kept_words size kept = record { size = size; list = take (codeword_count size) kept }
 
 -- Codewords of the size are kept in so many bytes if the size stands in the table and has no more codewords.
-pub record AreKeptIn (room : ℕ) (size : SizeEntry) (kept : List ℕ) : Type 0 where
+pub record AreKeptIn (room : ℕ) (size : SizeEntry) : Type 0 where
   pub entry : IsSize size
   pub fits : codeword_count size ≤ room
-  pub count : length kept ≡ room
-  pub bytes : All (λ word. word < 256) kept
 
 -- In the numbers of a row, a module before column 128 is a bit of the first, and one from there on a bit of the second.
 abbrev pub kept_cell : List ℕ → List ℕ → ℕ → ℕ → Bool

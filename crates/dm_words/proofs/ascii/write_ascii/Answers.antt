@@ -1,4 +1,4 @@
-use Rattle.dm_words.proofs.Names.{◌∙◌, ap, length, arith}
+use Rattle.dm_words.proofs.Names.{◌∙◌, ap, length, arith, nat_tests}
 use Rattle.dm_words.proofs.UnitLoops.{has_unit, unit_turn, unit_room, fnc1_turn, words_end, fnc1_end}
 use Rattle.dm_words.proofs.ascii.write_ascii.Goals as goal
 
@@ -22,9 +22,7 @@ loop-at-preserved g c =
     }
 
 pub loop-at-smaller : goal.loop-at-smaller
-loop-at-smaller g c =
-    let h = has_unit c.unit_at-unit.result c.args.items.now c.loop-at.at c.loop-at-test.true c.unit_at-unit.ensures in
-    omega (arith, h.some, h.within, c.write_unit-at.ensures.item_count)
+loop-at-smaller g c = grind (arith, nat_tests, has_unit)
 
 pub returns-clause-words : goal.returns-clause-words
 returns-clause-words g c = words_end _ _ _ c.loop-at-test.false c.loop-at.invariant.so_far

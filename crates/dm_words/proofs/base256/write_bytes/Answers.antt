@@ -1,21 +1,12 @@
-use Rattle.dm_words.proofs.Names.{◌≡◌, ◌+◌, ◌++◌, ◌∷◌, [], length, map, take, arith, ap, length-append, length-map}
-use Rattle.dm_words.proofs.Names.{length-take, byte_of, randomised, written}
+use Rattle.dm_words.proofs.Names.{◌≡◌, ◌+◌, ◌++◌, ◌∷◌, [], length, map, arith, length-append, length-map, length-take}
+use Rattle.dm_words.proofs.Names.{byte_of, randomised, written, nat_tests}
 use Rattle.dm_words.proofs.Segments.{length-written}
 use Rattle.dm_words.proofs.NormalForms.{bytes_more}
 use Rattle.dm_words.proofs.base256.write_bytes.Goals as goal
 
 pub push-requires : goal.push-requires
 push-requires g c =
-    let m = c.args.items.now in
-    let i = c.loop-item.item-index in
-    omega (
-      arith,
-      ap length c.loop-item.invariant.so_far,
-      length-append c.args.words.now.items (written (length c.args.words.now.items + 1) (map byte_of (take i m))),
-      length-written (length c.args.words.now.items + 1) (map byte_of (take i m)),
-      length-map (take i m) byte_of,
-      length-take i m,
-    )
+    grind (arith, nat_tests, length-append, written, map, byte_of, length-written, length-map, length-take)
 
 pub loop-item-preserved : goal.loop-item-preserved
 loop-item-preserved g c =

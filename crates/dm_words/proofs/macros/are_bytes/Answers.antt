@@ -1,4 +1,4 @@
-use Rattle.dm_words.proofs.Names.{◌≡◌, ◌∙◌, ◌<◌, List, length, get_or, ap, arith, true, Item, Fnc1}
+use Rattle.dm_words.proofs.Names.{◌<◌, length, ap, arith, Fnc1, nat_tests}
 use Rattle.dm_words.proofs.Segments.{byte_items-length}
 use Rattle.dm_words.proofs.Frames.{byte_at, bytes_so_far}
 use Rattle.dm_words.proofs.macros.are_bytes.Goals as goal
@@ -8,12 +8,7 @@ returns-then-items-bytes-clause-no c =
     λ e. absurd (omega (arith, c.if-items-bytes.true, ap length e, byte_items-length c.args.bytes.now))
 
 pub returns-then-not-is_byte-clause-no : goal.returns-then-not-is_byte-clause-no
-returns-then-not-is_byte-clause-no c =
-    λ e. (let lt : c.loop-i.i < length c.args.bytes.now = omega (arith, c.loop-i-test.true) in
-    let t : c.is_byte.result
-    ≡ true = c.is_byte.ensures.no (ap (λ (l : List Item). get_or l c.loop-i.i Fnc1) e
-    ∙ byte_at c.args.bytes.now c.loop-i.i Fnc1 lt) in
-    cc)
+returns-then-not-is_byte-clause-no c = grind (arith, nat_tests, byte_at)
 
 pub loop-i-preserved : goal.loop-i-preserved
 loop-i-preserved c =

@@ -1,4 +1,4 @@
-use Rattle.dm_words.proofs.Names.{◌∙◌, arith, ap, length, sym}
+use Rattle.dm_words.proofs.Names.{◌∙◌, arith, ap, length, sym, nat_tests}
 use Rattle.dm_words.proofs.NormalPlain.{message_plain}
 use Rattle.dm_words.proofs.normal_form.normal_words_in.Goals as goal
 
@@ -6,11 +6,7 @@ pub returns-then-not-surely_fits-clause-same : goal.returns-then-not-surely_fits
 returns-then-not-surely_fits-clause-same g c = c.write_counted.ensures.same
 
 pub write_segment-requires : goal.write_segment-requires
-write_segment-requires g c =
-    let e = c.form_of.ensures in
-    let form = rw c.if-form_of.true at e.form in
-    let fits = rw c.if-not-surely_fits.false at c.surely_fits.ensures in
-    omega (arith, ap length form, e.length, e.no_longer, c.write_ascii-ascii.ensures.length, fits)
+write_segment-requires g c = grind (arith, nat_tests)
 
 pub returns-then-form_of-clause-plain : goal.returns-then-form_of-clause-plain
 returns-then-form_of-clause-plain g c =

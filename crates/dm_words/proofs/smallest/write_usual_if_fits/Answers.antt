@@ -1,20 +1,25 @@
-use Rattle.dm_words.proofs.Names.{arith, ◌∙◌, ap, Setting, parts_cost}
-use Rattle.dm_words.proofs.SmallestSymbols.{wider, usual_plainest, any_plainest, long_plainest}
+use Rattle.dm_words.proofs.Names.{arith, ◌∙◌, ap, as_content, Setting, Usual, parts_cost, nat_tests}
+use Rattle.dm_words.proofs.SaidBounds.{spelled_is_few}
+use Rattle.dm_words.proofs.SmallestSymbols.{plainest, usual_few, wider}
 use Rattle.dm_words.proofs.smallest.write_usual_if_fits.Goals as goal
 
-pub returns-then-plan_to-count-clause-spells : goal.returns-then-plan_to-count-clause-spells
-returns-then-plan_to-count-clause-spells g c = wider c.args.extent _ _ c.write_plain-usual.ensures.spells
+pub returns-then-plan_to-count-clause-written : goal.returns-then-plan_to-count-clause-written
+returns-then-plan_to-count-clause-written c = wider c.args.extent _ _ c.write_plain-usual.ensures.written
 
 pub returns-then-plan_to-count-clause-plainest : goal.returns-then-plan_to-count-clause-plainest
-returns-then-plan_to-count-clause-plainest g c =
-    usual_plainest _ _ _ c.write_plain-usual.ensures.fits c.requires.no_ascii c.write_plain-usual.ensures.spells
+returns-then-plan_to-count-clause-plainest c = grind (arith, nat_tests, plainest, as_content)
 
 pub returns-else-plan_to-count-clause-plainest : goal.returns-else-plan_to-count-clause-plainest
-returns-else-plan_to-count-clause-plainest g c =
-    any_plainest _ _ _ _ c.requires.fits c.requires.no_ascii
-    (c.plan_to.ensures.cost ∙ ap (λ (s : Setting). parts_cost s c.args.items.now) c.at_end.ensures)
-    c.if-plan_to-count.false
+returns-else-plan_to-count-clause-plainest c =
+    let m = c.args.items.now in
+    let cost = c.plan_to.ensures.cost ∙ ap (λ (s : Setting). parts_cost s m) c.at_end.ensures in
+    plainest (as_content m) _ c.args.count c.requires.fits (λ room. absurd (omega (arith, room, c.requires.no_ascii)))
+    (λ other same says. absurd (omega
+    (arith, usual_few other m (omega (arith, c.requires.few)) says, same, cost, c.if-plan_to-count.false)))
 
 pub returns-then-from-items-clause-plainest : goal.returns-then-from-items-clause-plainest
-returns-then-from-items-clause-plainest g c =
-    long_plainest _ _ _ c.requires.fits c.requires.no_ascii (omega (arith, c.from.ensures, c.if-from-items.true))
+returns-then-from-items-clause-plainest c =
+    let m = c.args.items.now in
+    plainest (as_content m) _ c.args.count c.requires.fits (λ room. absurd (omega (arith, room, c.requires.no_ascii)))
+    (λ other same says. absurd (omega
+    (arith, spelled_is_few Usual other m says, same, c.from.ensures, c.if-from-items.true)))

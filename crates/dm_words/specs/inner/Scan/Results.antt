@@ -19,9 +19,10 @@ use Rattle.dm_words.specs.NormalForm.{has_fnc1}
 use Rattle.dm_words.specs.inner.Scan.Walk.{Step, Takes, Stops}
 use Rattle.dm_words.specs.inner.Scan.Prefixes.{first_part, group_by, edifact_items}
 
--- A message with so much room has room for what the codewords from an index on spell: two items for each of them.
-abbrev pub HasRoomAt : ℕ → List ℕ → ℕ → List Item → Type 0
-HasRoomAt room words at message = length message + 2 * length words ≤ room + 2 * at
+-- Behind so many items, a list with so much room has room for what the codewords from an index on spell: two items for
+-- each of them.
+abbrev pub HasRoomAt : ℕ → List ℕ → ℕ → ℕ → Type 0
+HasRoomAt room words at held = held + 2 * length words ≤ room + 2 * at
 
 -- A part with the given number of words was taken, and its items stand behind the old ones; or the end was met; or a
 -- fault.

@@ -5,8 +5,8 @@ use Rattle.ecc200_calls.proofs.reading.read_sought.Goals as goal
 pub returns-in-Ok : goal.returns-in-Ok
 returns-in-Ok c =
     let a = c.args in
-    read_of_given a.sought.rows a.sought.columns a.modules.now a.doubtful.now c.in-Ok.given.size c.in-Ok.given.doubt
-    c.in-Ok.ensures.known a.sought a.out.now c.read_known.new.out c.read_known.ensures
+    read_of_given a.sought a.modules.now a.doubtful.now c.in-Ok.given.size c.in-Ok.given.doubt c.in-Ok.ensures.known
+    a.out.now c.answer_known.new.out c.answer_known.ensures
 
 pub returns-in-Err : goal.returns-in-Err
 returns-in-Err c = SoughtResult.not_given c.in-Err.why c.in-Err.ensures.fault c.show_fault.ensures

@@ -6,4 +6,5 @@ use Rattle.dm_layout.proofs.grids.border.border_faults.Goals as goal
 pub returns : goal.returns
 returns c =
     let same = ap symbol_modules (sym c.grid.view_is) ∙ same_symbol c.grid.inside.symbol c.grid.invariant in
-    c.border_faults.ensures ∙ all_sure c.grid.inside.symbol ∙ ap symbols.border_fault_count (sym same)
+    (rw c.borrowed.ensures at c.border_faults.ensures) ∙ all_sure c.grid.inside.symbol
+    ∙ ap symbols.border_fault_count (sym same)

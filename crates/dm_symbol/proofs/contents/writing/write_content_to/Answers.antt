@@ -20,7 +20,7 @@ pub returns-in-Ok-clause-written : goal.returns-in-Ok-clause-written
 returns-in-Ok-clause-written c =
     let a = c.args in
     let l : ContentView = record { head = a.head; items = a.items.now; marks = a.marks.now } in
-    c.lay_words_to.ensures a.how.form a.how.size l
+    c.lay_words_to.ensures.written a.how.form a.how.size l
     (subst (λ (ws : List ℕ). AreChosen a.how.form a.how.size l c.in-Ok.size ws) (sym c.deref.ensures.0)
     c.in-Ok.ensures.chosen)
 

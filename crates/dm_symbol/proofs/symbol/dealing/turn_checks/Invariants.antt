@@ -2,4 +2,4 @@ use Rattle.dm_symbol.proofs.Names.{◌≡◌, get_or, map, range_with_len, turne
 use Rattle.dm_symbol.proofs.symbol.dealing.turn_checks.Given as goal
 
 abbrev pub invariant-loop-i : goal.invariant-loop-i
-invariant-loop-i g l = l.checks.items ≡ map (λ i. get_or l.list (turned_place l.shift i) 0) (range_with_len 0 l.i)
+invariant-loop-i l = l.checks.items ≡ map (λ i. get_or l.words (turned_place l.shift i) 0) (range_with_len 0 l.i)

@@ -5,14 +5,13 @@ use Rattle.dm_symbol.proofs.symbol.reading.restore_each.Given as goal
 
 -- The blocks before b are restored, with what is said of them, and the others are as they were.
 abbrev pub invariant-loop-b : goal.invariant-loop-b
-invariant-loop-b g l =
-    let s = l.initial.words.size in
+invariant-loop-b l =
+    let s = l.size in
     let erased = marked_in s (option_map (λ m. m.now) l.fn.marks) in
-    let old = block_in s l.initial.words.list in
-    let now = block_in s l.words.list in
+    let old = block_in s l.initial.words in
+    let now = block_in s l.words in
     record {
-      size : l.words.size ≡ s;
-      words : AreOfSize s l.words.list;
+      words : AreOfSize s l.words;
       count : length l.blocks.items ≡ l.b;
       said : (a : ℕ) → a < l.b
           → get_or l.blocks.items a nothing_said ≡ block_reading (block_check s) (erased a) (old a) (now a);

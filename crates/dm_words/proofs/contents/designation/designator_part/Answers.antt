@@ -3,6 +3,6 @@ use Rattle.dm_words.proofs.DesignationLoops.{designator_found}
 use Rattle.dm_words.proofs.contents.designation.designator_part.Goals as goal
 
 pub returns-in-Some : goal.returns-in-Some
-returns-in-Some g c =
+returns-in-Some c =
     designator_found _ _ _ _ _ (ap first_designator (sym (take_rest c.args.words.now (c.args.at + 1))) ∙ sym
     c.first_designator.ensures ∙ c.in-Some.is) c.push.ensures.items

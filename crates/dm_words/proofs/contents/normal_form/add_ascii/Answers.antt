@@ -1,4 +1,4 @@
-use Rattle.dm_words.proofs.Names.{arith, length-append, ascii}
+use Rattle.dm_words.proofs.Names.{arith, length-append, ascii, nat_tests}
 use Rattle.dm_words.proofs.UnitLoops.{has_unit}
 use Rattle.dm_words.proofs.MarkedWords.{unit_added, unit_fits, units_end}
 use Rattle.dm_words.proofs.contents.normal_form.add_ascii.Goals as goal
@@ -22,9 +22,7 @@ loop-at-preserved g c =
     }
 
 pub loop-at-smaller : goal.loop-at-smaller
-loop-at-smaller g c =
-    let h = has_unit c.unit_at-unit.result c.args.items.now c.loop-at.at c.loop-at-test.true c.unit_at-unit.ensures in
-    omega (arith, h.some, h.within, c.write_unit-at.ensures.item_count)
+loop-at-smaller g c = grind (arith, nat_tests, has_unit)
 
 pub returns : goal.returns
 returns g c = units_end _ _ _ _ c.loop-at-test.false c.loop-at.invariant.so_far

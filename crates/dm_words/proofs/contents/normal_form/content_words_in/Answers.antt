@@ -1,14 +1,9 @@
-use Rattle.dm_words.proofs.Names.{◌∙◌, sym, normal_form}
+use Rattle.dm_words.proofs.Names.{◌∙◌, sym, normal_form, arith, nat_tests}
 use Rattle.dm_words.proofs.NormalPlain.{content_plain, plain_is_normal, marked_is_ascii}
 use Rattle.dm_words.proofs.contents.normal_form.content_words_in.Goals as goal
 
 pub returns-then-is_plain-clause-plain : goal.returns-then-is_plain-clause-plain
-returns-then-is_plain-clause-plain g c =
-    let a = c.args in
-    content_plain a.profile a.head a.items.now a.marks.now _ (normal_form a.profile a.items.now) g.row.N _
-    c.requires.head c.requires.in_order c.requires.most
-    (plain_is_normal a.profile a.head a.items.now a.marks.now (sym c.is_plain.ensures ∙ c.if-is_plain.true))
-    c.normal_words_in.ensures.form c.normal_words_in.ensures.too_long
+returns-then-is_plain-clause-plain g c = grind (arith, nat_tests, content_plain, normal_form, plain_is_normal)
 
 pub returns-clause-plain : goal.returns-clause-plain
 returns-clause-plain g c =

@@ -1,4 +1,4 @@
-use Rattle.dm_words.proofs.Names.{length, arith}
+use Rattle.dm_words.proofs.Names.{arith, nat_tests}
 use Rattle.dm_words.proofs.MarkedWords.{turn, piece_short, count_turn}
 use Rattle.dm_words.proofs.contents.normal_form.marked_length.Goals as goal
 
@@ -32,13 +32,7 @@ loop-mark-preserved c =
     }
 
 pub overflow_add-result : goal.overflow_add-result
-overflow_add-result c =
-    let p = piece_short c.args.items.now c.loop-mark.before (length c.args.items.now) c.loop-mark.invariant.within
-    (omega arith) in
-    omega arith
+overflow_add-result c = grind (arith, nat_tests, piece_short)
 
 pub returns-clause-most : goal.returns-clause-most
-returns-clause-most c =
-    let p = piece_short c.args.items.now c.loop-mark.before (length c.args.items.now) c.loop-mark.invariant.within
-    (omega arith) in
-    omega arith
+returns-clause-most c = grind (arith, nat_tests, piece_short)

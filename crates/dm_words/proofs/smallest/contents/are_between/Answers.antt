@@ -1,18 +1,18 @@
-use Rattle.dm_words.proofs.Names.{arith}
+use Rattle.dm_words.proofs.Names.{arith, nat_tests}
 use Rattle.dm_words.proofs.MarkedCosts.{each_within, between}
 use Rattle.dm_words.proofs.smallest.contents.are_between.Goals as goal
 use Rattle.dm_words.proofs.smallest.contents.are_between.Goals.{then-place-least-via-then-place-least}
 use Rattle.dm_words.proofs.smallest.contents.are_between.Goals.{then-place-least-via-else-place-least+then-most-place}
 
 pub returns-then-place-least-clause-no : goal.returns-then-place-least-clause-no
-returns-then-place-least-clause-no c = λ are.
-    let e = each_within _ _ _ _ (record { place = 0; number = 0 }) are c.loop-mark-test.true in
-    elim c.then-place-least.branch [
-      | then-place-least-via-then-place-least w ↦ absurd
-          (omega (arith, w.if-place-least.true, e.0, c.from-place.ensures))
-      | then-place-least-via-else-place-least+then-most-place w ↦ absurd
-          (omega (arith, w.if-most-place.true, e.1, c.from-place.ensures))
-    ]
+returns-then-place-least-clause-no c =
+    grind (
+      arith,
+      nat_tests,
+      each_within,
+      then-place-least-via-then-place-least,
+      then-place-least-via-else-place-least+then-most-place,
+    )
 
 pub returns-clause-yes : goal.returns-clause-yes
 returns-clause-yes c = λ yes.

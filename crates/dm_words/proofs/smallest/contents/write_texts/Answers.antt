@@ -1,13 +1,13 @@
 use Rattle.dm_words.proofs.Names.{◌≡◌, ◌∙◌, ℕ, ◌+◌, ◌-◌, ◌∷◌, length, take, drop, get_or, ap, sym, arith, refl, rules}
 use Rattle.dm_words.proofs.Names.{length-append, length-take, length-drop, All-drop, All-take, eci_word, designator}
-use Rattle.dm_words.proofs.Names.{spelled, IsItem, before_words, parts_cost, marked_cost}
+use Rattle.dm_words.proofs.Names.{spelled, IsItem, before_words, parts_cost, marked_cost, nat_tests}
 use Rattle.dm_words.proofs.ContentWritten.{nothing_said, texts_turn, texts_end}
 use Rattle.dm_words.proofs.MarkedCosts.{forth, behind_few}
 use Rattle.dm_words.proofs.PlainForms.{sign_turn, sign_end}
 use Rattle.dm_words.proofs.smallest.contents.write_texts.Goals as goal
 
 pub loop-k-init : goal.loop-k-init
-loop-k-init g c =
+loop-k-init c =
     let here : c.args.seen ≡ c.args.seen + 0 = omega arith in
     record {
       within = omega arith;
@@ -20,12 +20,12 @@ loop-k-init g c =
     }
 
 pub slice_bounds-write_text-end : goal.slice_bounds-write_text-end
-slice_bounds-write_text-end g c =
+slice_bounds-write_text-end c =
     let f = forth _ _ _ _ _ (record { place = 0; number = 0 }) c.loop-k-test.true c.loop-k.invariant.in_order in
     omega (arith, f.within, c.from.ensures)
 
 pub write_text-requires : goal.write_text-requires
-write_text-requires g c =
+write_text-requires c =
     let v = c.loop-k.invariant in
     let seen = c.args.seen in
     let items = c.args.items.now in
@@ -38,28 +38,20 @@ write_text-requires g c =
     let paid = ap (λ (p : ℕ). parts_cost (before_words (get_or c.args.behind.now k 0))
     (take (p - seen - from) (drop from items))) c.from.ensures
     ∙ ap (λ (n : ℕ). parts_cost (before_words n) (take ((get_or marks k (record { place = 0; number = 0 })).place - seen
-    - from) (drop from items))) behind in (
-      search rules,
-      (
-        omega (arith, c.requires.few, length-take count (drop from items), length-drop from items),
-        (
-          omega (
-            arith,
-            behind_few seen items marks k from _ _ _ f c.requires.few c.requires.few_marks c.loop-k-test.true,
-          ),
-          (
-            All-take IsItem count (drop from items) (All-drop IsItem from items c.requires.message),
-            (
-              omega (arith, v.steps, length-take count (drop from items), length-drop from items),
-              (omega (arith, v.budget, f.cost, paid), (c.requires.total, c.requires.most)),
-            ),
-          ),
-        ),
-      ),
-    )
+    - from) (drop from items))) behind in record {
+      few = omega (arith, c.requires.few, length-take count (drop from items), length-drop from items);
+      behind = omega (
+        arith,
+        behind_few seen items marks k from _ _ _ f c.requires.few c.requires.few_marks c.loop-k-test.true,
+      );
+      message = All-take IsItem count (drop from items) (All-drop IsItem from items c.requires.message);
+      steps = omega (arith, v.steps, length-take count (drop from items), length-drop from items);
+      budget = omega (arith, v.budget, f.cost, paid);
+      total = c.requires.total;
+    }
 
 pub loop-k-preserved : goal.loop-k-preserved
-loop-k-preserved g c =
+loop-k-preserved c =
     let v = c.loop-k.invariant in
     let seen = c.args.seen in
     let items = c.args.items.now in
@@ -90,12 +82,10 @@ loop-k-preserved g c =
     }
 
 pub returns-clause-said : goal.returns-clause-said
-returns-clause-said g c =
-    let v = c.loop-k.invariant in
-    texts_end _ _ _ _ _ _ _ _ _ c.loop-k-test.false v.said c.write_text-2.ensures.parts
+returns-clause-said c = grind (arith, nat_tests, texts_end)
 
 pub returns-clause-sign : goal.returns-clause-sign
-returns-clause-sign g c =
+returns-clause-sign c =
     let v = c.loop-k.invariant in
     sign_end _ _ _ (spelled c.write_text-2.ensures.parts.parts) _ _ _ _ _ c.loop-k-test.false v.first v.sign
     c.write_text-2.ensures.sign c.write_text-2.ensures.parts.whole

@@ -4,7 +4,7 @@ use Rattle.dm_words.proofs.smallest.contents.write_texts.Given as goal
 
 -- The items before the index and the marks so far are written, and the others are paid.
 abbrev pub invariant-loop-k : goal.invariant-loop-k
-invariant-loop-k g l = record {
+invariant-loop-k l = record {
   within : l.from ≤ length l.items;
   steps : length l.items < length l.plan;
   in_order : AreMarks (l.seen + l.from) (l.seen + length l.items) (drop l.k l.marks);

@@ -8,7 +8,7 @@ use Rattle.dm_words.proofs.smallest.edifact.write_edifact.Goals as goal
 use Rattle.dm_words.proofs.smallest.edifact.write_edifact.Goals.{In-loop-words}
 
 pub loop-words-init : goal.loop-words-init
-loop-words-init g c =
+loop-words-init c =
     let f = first_of_groups _ _ _ Fnc1 _ _ c.requires.at (omega (arith, c.requires.budget, c.push.ensures.len))
     (omega (arith, c.requires.total)) in
     let begun = edifact_begun c.args.words.now.items c.push.new.self.items c.push.ensures.items in
@@ -25,28 +25,32 @@ loop-words-init g c =
       zero_is = omega arith
 
 -- Each item is paid where the run goes on.
-goes : (g : _) (c : In-loop-words g)
+goes : (c : In-loop-words)
     → IsGroupPaidAt c.args.setting c.args.items.now c.loop-words.next Fnc1 c.loop-words.group
     (length c.loop-words.words.items) c.args.total
-goes g c =
+goes c =
     group_at _ _ _ Fnc1 _ _ _ _ _ (c.requires.plan c.loop-words.next _ c.loop-words.invariant.within)
     c.loop-words.invariant.budget (omega (arith, c.requires.total)) c.goes_on.ensures c.loop-words-test.true
 
 pub bounds-items-next : goal.bounds-items-next
-bounds-items-next g c = (goes g (goal.at.bounds-items-next g c).In-loop-words).there
+bounds-items-next c = (goes (goal.at.bounds-items-next c).In-loop-words).there
 
 pub push_value-group-requires-in-loop-words : goal.push_value-group-requires-in-loop-words
-push_value-group-requires-in-loop-words g c =
-    let b = goes g (goal.at.push_value-group-requires-in-loop-words g c).In-loop-words in
-    (search rules, (search rules, (search rules, omega (arith, value_room _ _ _ _ b.budget))))
+push_value-group-requires-in-loop-words c =
+    let b = goes (goal.at.push_value-group-requires-in-loop-words c).In-loop-words in
+    record {
+      small = search rules;
+      group = search rules;
+      room = omega (arith, value_room _ _ _ _ b.budget, c.requires.total);
+    }
 
 pub loop-words-smaller : goal.loop-words-smaller
-loop-words-smaller g c = omega (arith, (goes g (goal.at.loop-words-smaller g c).In-loop-words).there)
+loop-words-smaller c = omega (arith, (goes (goal.at.loop-words-smaller c).In-loop-words).there)
 
 pub loop-words-preserved : goal.loop-words-preserved
-loop-words-preserved g c =
+loop-words-preserved c =
     let v = c.loop-words.invariant in
-    let r = goes g (goal.at.loop-words-preserved g c).In-loop-words in
+    let r = goes (goal.at.loop-words-preserved c).In-loop-words in
     record {
       from = omega (arith, v.from);
       within = omega (arith, r.there);
@@ -57,18 +61,22 @@ loop-words-preserved g c =
     }
 
 pub end_run-requires : goal.end_run-requires
-end_run-requires g c =
+end_run-requires c =
     let room = waiting_room _ _ _ _ c.loop-words.invariant.budget in
-    (search rules, (search rules, (room, (c.requires.total, c.requires.most))))
+    record {
+      group = search rules;
+      room = room;
+      total = c.requires.total;
+    }
 
 pub returns-clause-budget : goal.returns-clause-budget
-returns-clause-budget g c =
+returns-clause-budget c =
     ended_budget _ _ (parts_cost c.args.setting (drop c.loop-words.next c.args.items.now)) _ _ (leave_groups _ _ _ _ _ _
     _ (c.requires.plan c.loop-words.next _ c.loop-words.invariant.within) c.loop-words.invariant.budget
     c.goes_on.ensures c.loop-words-test.false) c.end_run.ensures
 
 pub returns-clause-part : goal.returns-clause-part
-returns-clause-part g c =
+returns-clause-part c =
     let v = c.loop-words.invariant in
     let l = leave_groups _ _ _ _ _ _ _ (c.requires.plan c.loop-words.next _ v.within) v.budget c.goes_on.ensures
     c.loop-words-test.false in

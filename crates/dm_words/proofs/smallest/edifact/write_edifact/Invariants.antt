@@ -4,7 +4,7 @@ use Rattle.dm_words.proofs.GroupsWritten.{IsEdifactSoFar}
 use Rattle.dm_words.proofs.smallest.edifact.write_edifact.Given as goal
 
 abbrev pub invariant-loop-words : goal.invariant-loop-words
-invariant-loop-words g l = record {
+invariant-loop-words l = record {
   from : l.at + 1 ≤ l.next;
   within : l.next ≤ length l.items;
   wide : l.fn.setting.extent ≡ Wide;
@@ -14,4 +14,4 @@ invariant-loop-words g l = record {
 }
 
 abbrev pub decreases-loop-words : goal.decreases-loop-words
-decreases-loop-words g l = length l.items - l.next
+decreases-loop-words l = length l.items - l.next

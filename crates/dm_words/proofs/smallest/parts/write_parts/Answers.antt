@@ -1,5 +1,5 @@
-use Rattle.dm_words.proofs.Names.{◌≡◌, ◌+◌, ◌-◌, ◌++◌, List, take, drop, ap, subst, arith, drop_all, take-add, Extent}
-use Rattle.dm_words.proofs.Names.{Usual, Item, IsPartWritten, ArePartsWritten, parts_cost}
+use Rattle.dm_words.proofs.Names.{◌≡◌, ◌+◌, ◌-◌, ◌++◌, List, take, drop, subst, arith, drop_all, take-add, Extent}
+use Rattle.dm_words.proofs.Names.{Usual, Item, IsPartWritten, ArePartsWritten, parts_cost, nat_tests}
 use Rattle.std.proofs.lemmas.Bool.{and_parts}
 use Rattle.dm_words.proofs.CostsMet.{nothing_costs}
 use Rattle.dm_words.proofs.PartsWritten.{no_parts, parts_more}
@@ -7,7 +7,7 @@ use Rattle.dm_words.proofs.SignParts.{passes_on, passes_all}
 use Rattle.dm_words.proofs.smallest.parts.write_parts.Goals as goal
 
 pub loop-at-init : goal.loop-at-init
-loop-at-init g c = record {
+loop-at-init c = record {
   within = omega arith;
   budget = c.requires.budget;
   parts = no_parts c.args.setting.extent c.args.total c.args.words.now.items;
@@ -16,7 +16,7 @@ loop-at-init g c = record {
 }
 
 pub loop-at-preserved : goal.loop-at-preserved
-loop-at-preserved g c =
+loop-at-preserved c =
     let m = c.args.items.now in
     let at = c.loop-at.at in
     let next = c.write_part-part.result.next in
@@ -40,14 +40,7 @@ loop-at-preserved g c =
     }
 
 pub returns-clause-fits : goal.returns-clause-fits
-returns-clause-fits g c =
-    omega (
-      arith,
-      ap (parts_cost c.args.setting) (drop_all c.loop-at.at c.args.items.now c.loop-at-test.false),
-      nothing_costs c.args.setting,
-    )
+returns-clause-fits c = grind (arith, nat_tests, parts_cost, drop_all, nothing_costs)
 
 pub returns-clause-sign : goal.returns-clause-sign
-returns-clause-sign g c =
-    passes_all c.args.words.now.items c.loop-at.words.items c.args.items.now (drop c.loop-at.at c.args.items.now)
-    (drop_all c.loop-at.at c.args.items.now c.loop-at-test.false) c.loop-at.invariant.sign
+returns-clause-sign c = grind (arith, nat_tests, passes_all, drop_all)

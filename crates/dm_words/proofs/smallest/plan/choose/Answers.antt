@@ -1,4 +1,4 @@
-use Rattle.dm_words.proofs.Names.{sym, ℕ, List, get_or, ◌∙◌, ap, arith, least_of}
+use Rattle.dm_words.proofs.Names.{sym, ℕ, List, get_or, ◌∙◌, ap, arith, least_of, nat_tests}
 use Rattle.dm_words.proofs.CostLanes.{cost_at, first_begin, second_begin, lane_costs}
 use Rattle.dm_words.proofs.smallest.plan.choose.Goals as goal
 
@@ -13,11 +13,7 @@ returns-clause-begins c r g row small going =
     ∙ c.first_least.ensures.found
 
 pub returns-clause-pair : goal.returns-clause-pair
-returns-clause-pair c r g row small going is =
-    first_begin c.first_least.result.begins (λ lt. c.first_least.ensures.first 0 lt (lane_costs c.args.item c.args.pair
-    r g 0 c.costs_of.result _ (omega arith) (c.costs_of.ensures.costs r g row small going) is))
+returns-clause-pair c r g row small going is = grind (arith, nat_tests, first_begin, lane_costs)
 
 pub returns-clause-one : goal.returns-clause-one
-returns-clause-one c r g row small going is =
-    second_begin c.first_least.result.begins (λ lt. c.first_least.ensures.first 1 lt (lane_costs c.args.item c.args.pair
-    r g 1 c.costs_of.result _ (omega arith) (c.costs_of.ensures.costs r g row small going) is))
+returns-clause-one c r g row small going is = grind (arith, nat_tests, second_begin, lane_costs)

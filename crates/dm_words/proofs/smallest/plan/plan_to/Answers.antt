@@ -1,6 +1,6 @@
 use Rattle.dm_words.proofs.Names.{◌≡◌, ◌∙◌, ◌+◌, ◌-◌, ◌∷◌, ◌&&◌, cond, sym, ℕ, drop, get_or, rules, ap, subst, arith}
 use Rattle.dm_words.proofs.Names.{List, length, refl, inl, inr, drop_all, length-drop, Item, ascii, IsItem, pair_first}
-use Rattle.dm_words.proofs.Names.{unit_cost, Fnc1, Row, row, going_over, with_ascii, begin_at, step_in, none_going}
+use Rattle.dm_words.proofs.Names.{unit_cost, Fnc1, row, going_over, with_ascii, begin_at, step_in, none_going}
 use Rattle.std.proofs.lemmas.Bool.{cases_eq}
 use Rattle.std.proofs.lemmas.List.{get_or_default}
 use Rattle.dm_words.proofs.NormalForms.{two_words}
@@ -8,52 +8,37 @@ use Rattle.dm_words.proofs.Plans.{ascii_turn, within, turn, plan_more, plan_firs
 use Rattle.dm_words.proofs.Plans.{going_small, digit_here, digit_last, least_small, kept_small}
 use Rattle.dm_words.proofs.CostLanes.{last_zero}
 use Rattle.dm_words.proofs.smallest.plan.plan_to.Goals as goal
+use Rattle.dm_words.proofs.Names.{nat_tests}
 
 pub loop-at-init : goal.loop-at-init
-loop-at-init c = record {
-  in_range = omega arith;
-  room = search rules;
-  digit = sym (digit_last c.args.items.now);
-  in_ascii = sym (ap (λ (l : List Item). length (ascii l))
-      (drop_all (length c.args.items.now) c.args.items.now (omega arith)));
-  in_ascii_behind = sym (ap (λ (l : List Item). length (ascii l))
-      (drop_all (length c.args.items.now + 1) c.args.items.now (omega arith)));
-  row = last_costs c.args.setting c.args.items.now c.with_ascii-costs.result
-      (c.with_ascii-costs.ensures (none_going c.args.setting.behind) (none_small c.args.setting.behind)
-      c.none_going-none.ensures);
-  plan = plan_first c.args.setting c.args.items.now c.args.plan.now c.step_of.result c.requires.steps
-      (c.step_of.ensures (none_going c.args.setting.behind) c.none_going-none.ensures);
-  message = λ i other from to. absurd (omega (arith, from, to));
-}
-
-pub going_over-going-requires : goal.going_over-going-requires
-going_over-going-requires c =
-    let w = within c.args.setting c.args.items.now c.loop-at.at _ (omega (arith, c.requires.few)) c.requires.behind refl
-    (omega (arith, length-drop c.loop-at.at c.args.items.now)) in
-    (kept_small _ c.loop-at.costs w c.loop-at.invariant.row).2
-
-pub choose-choice-requires-clause-ascii : goal.choose-choice-requires-clause-ascii
-choose-choice-requires-clause-ascii c =
-    let w = within c.args.setting c.args.items.now c.loop-at.at _ (omega (arith, c.requires.few)) c.requires.behind refl
-    (omega (arith, length-drop c.loop-at.at c.args.items.now)) in
-    (kept_small _ c.loop-at.costs w c.loop-at.invariant.row).0
-
-pub choose-choice-requires-clause-after : goal.choose-choice-requires-clause-after
-choose-choice-requires-clause-after c =
-    let w = within c.args.setting c.args.items.now c.loop-at.at _ (omega (arith, c.requires.few)) c.requires.behind refl
-    (omega (arith, length-drop c.loop-at.at c.args.items.now)) in
-    (kept_small _ c.loop-at.costs w c.loop-at.invariant.row).1
+loop-at-init c =
+    let setting = c.args.setting in
+    let m = c.args.items.now in
+    let costs = last_costs setting m c.with_ascii-costs.result (c.with_ascii-costs.ensures (none_going setting.behind)
+    (none_small setting.behind) c.none_going-none.ensures) in
+    let w = within setting m (length m) (omega (arith, c.requires.few)) c.requires.behind in
+    record {
+      in_range = omega arith;
+      room = search rules;
+      digit = sym (digit_last m);
+      in_ascii = sym (ap (λ (l : List Item). length (ascii l)) (drop_all (length m) m (omega arith)));
+      in_ascii_behind = sym (ap (λ (l : List Item). length (ascii l)) (drop_all (length m + 1) m (omega arith)));
+      row = costs;
+      within = w;
+      kept = kept_small _ _ w costs;
+      plan = plan_first setting m c.args.plan.now c.step_of.result c.requires.steps
+          (c.step_of.ensures (none_going setting.behind) c.none_going-none.ensures);
+      message = λ i other from to. absurd (omega (arith, from, to));
+    }
 
 pub choose-choice-requires-clause-zero : goal.choose-choice-requires-clause-zero
 choose-choice-requires-clause-zero c =
-    let w = within c.args.setting c.args.items.now c.loop-at.at _ (omega (arith, c.requires.few)) c.requires.behind refl
-    (omega (arith, length-drop c.loop-at.at c.args.items.now)) in
-    last_zero _ c.going_over-going.result (c.going_over-going.ensures _ w c.loop-at.invariant.row)
+    last_zero _ c.going_over-going.result
+    (c.going_over-going.ensures _ c.loop-at.invariant.within c.loop-at.invariant.row)
 
 pub step_of-requires-in-loop-at : goal.step_of-requires-in-loop-at
 step_of-requires-in-loop-at c =
-    let w = within c.args.setting c.args.items.now c.loop-at.at _ (omega (arith, c.requires.few)) c.requires.behind refl
-    (omega (arith, length-drop c.loop-at.at c.args.items.now)) in
+    let w = c.loop-at.invariant.within in
     let x = get_or c.args.items.now (c.loop-at.at - 1) Fnc1 in
     let next = row c.args.setting (drop c.loop-at.at c.args.items.now) in
     let g = going_over c.args.setting.extent x next in
@@ -63,8 +48,7 @@ step_of-requires-in-loop-at c =
 
 pub with_ascii-costs-requires-in-loop-at : goal.with_ascii-costs-requires-in-loop-at
 with_ascii-costs-requires-in-loop-at c =
-    let w = within c.args.setting c.args.items.now c.loop-at.at _ (omega (arith, c.requires.few)) c.requires.behind refl
-    (omega (arith, length-drop c.loop-at.at c.args.items.now)) in
+    let w = c.loop-at.invariant.within in
     let x = get_or c.args.items.now (c.loop-at.at - 1) Fnc1 in
     let next = row c.args.setting (drop c.loop-at.at c.args.items.now) in
     let g = going_over c.args.setting.extent x next in
@@ -73,22 +57,10 @@ with_ascii-costs-requires-in-loop-at c =
     omega (arith, cost, least_small x (c.is_digit_item-digit.result && c.loop-at.digit_behind) next g w)
 
 pub ascii_from-length-requires-clause-next : goal.ascii_from-length-requires-clause-next
-ascii_from-length-requires-clause-next c =
-    omega (
-      arith,
-      c.loop-at.invariant.in_ascii,
-      two_words (drop c.loop-at.at c.args.items.now),
-      length-drop c.loop-at.at c.args.items.now,
-    )
+ascii_from-length-requires-clause-next c = grind (arith, nat_tests, two_words, length-drop)
 
 pub ascii_from-length-requires-clause-after : goal.ascii_from-length-requires-clause-after
-ascii_from-length-requires-clause-after c =
-    omega (
-      arith,
-      c.loop-at.invariant.in_ascii_behind,
-      two_words (drop (c.loop-at.at + 1) c.args.items.now),
-      length-drop (c.loop-at.at + 1) c.args.items.now,
-    )
+ascii_from-length-requires-clause-after c = grind (arith, nat_tests, two_words, length-drop)
 
 pub loop-at-preserved : goal.loop-at-preserved
 loop-at-preserved c =
@@ -98,8 +70,7 @@ loop-at-preserved c =
     let at = c.loop-at.at in
     let x = get_or m (at - 1) Fnc1 in
     let next = row setting (drop at m) in
-    let w = within c.args.setting c.args.items.now c.loop-at.at _ (omega (arith, c.requires.few)) c.requires.behind refl
-    (omega (arith, length-drop c.loop-at.at c.args.items.now)) in
+    let w = c.loop-at.invariant.within in
     let g = going_over setting.extent x next in
     let small = going_small setting.extent x next w in
     let going = c.going_over-going.ensures next w v.row in
@@ -117,13 +88,17 @@ loop-at-preserved c =
       two = c.choose-choice.ensures.pair next g v.row small going;
       one = c.choose-choice.ensures.one next g v.row small going;
     }) (c.step_of-in-loop-at.ensures g going) refl in
+    let before = within setting m (at - 1) (omega (arith, c.requires.few)) c.requires.behind in
+    let costs = rw (ap (λ (n : ℕ). with_ascii choice.cost n g) v.row.ascii ∙ t.0) at
+    (c.with_ascii-costs-in-loop-at.ensures g small going) in
     record {
       in_range = omega (arith, v.in_range);
       room = search rules;
       digit = c.is_digit_item-digit.ensures.digit
           ∙ digit_here m at x Fnc1 (omega (arith, c.loop-at-test.true)) v.in_range refl;
-      row = rw (ap (λ (n : ℕ). with_ascii choice.cost n g) v.row.ascii ∙ t.0) at
-          (c.with_ascii-costs-in-loop-at.ensures g small going);
+      row = costs;
+      within = before;
+      kept = kept_small _ _ before costs;
       in_ascii = c.ascii_from-length.ensures
           ∙ ap (λ (n : ℕ). cond pair (1 + n) (unit_cost x + c.loop-at.ascii)) v.in_ascii_behind
           ∙ ap (λ (n : ℕ). cond pair (1 + length (ascii (drop (at + 1) m))) (unit_cost x + n)) v.in_ascii
@@ -147,8 +122,4 @@ pub returns-clause-message : goal.returns-clause-message
 returns-clause-message c = λ i other to. c.loop-at.invariant.message i other (omega (arith, c.loop-at-test.false)) to
 
 pub returns-clause-most : goal.returns-clause-most
-returns-clause-most c =
-    let all : drop c.loop-at.at c.args.items.now ≡ c.args.items.now =
-    ap (λ (i : ℕ). drop i c.args.items.now) (let none : c.loop-at.at
-    ≡ 0 = omega (arith, c.loop-at-test.false) in none) in
-    omega (arith, ap (λ (r : Row). r.ascii) (ap (row c.args.setting) all), cost_most c.args.setting c.args.items.now)
+returns-clause-most c = grind (arith, nat_tests, row, cost_most)

@@ -3,7 +3,7 @@ use Rattle.dm_words.proofs.RunWritten.{none_pushed, one_pushed}
 use Rattle.dm_words.proofs.smallest.run.push_item.Goals as goal
 
 pub returns-in-Some : goal.returns-in-Some
-returns-in-Some g c =
+returns-in-Some c =
     let value = c.in-Some.value in
     let old = c.args.words.now.items in (
       value ∷ [],

@@ -3,20 +3,15 @@ use Rattle.dm_words.proofs.RunWritten.{pushed_lengths, next_pushed}
 use Rattle.dm_words.proofs.smallest.run.push_values.Goals as goal
 
 pub push_value-part-requires : goal.push_value-part-requires
-push_value-part-requires g c =
-    let n = pushed_lengths _ _ _ _ _ c.loop-value.invariant.pushed in (
-      search rules,
-      (
-        search rules,
-        (
-          search rules,
-          omega (arith, length-take c.loop-value.value-index c.args.values.now),
-        ),
-      ),
-    )
+push_value-part-requires c =
+    let n = pushed_lengths _ _ _ _ _ c.loop-value.invariant.pushed in record {
+      small = search rules;
+      part = search rules;
+      room = omega (arith, length-take c.loop-value.value-index c.args.values.now);
+    }
 
 pub loop-value-preserved : goal.loop-value-preserved
-loop-value-preserved g c =
+loop-value-preserved c =
     record {
       pushed = next_pushed _ _ c.args.values.now _ _ _ c.push_value-part.result c.loop-value.value-index _ 0
           c.loop-value-test.true refl (search rules) c.loop-value.invariant.pushed c.push_value-part.ensures;

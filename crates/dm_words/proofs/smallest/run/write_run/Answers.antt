@@ -7,41 +7,32 @@ use Rattle.dm_words.proofs.smallest.run.write_run.Goals as goal
 use Rattle.dm_words.proofs.smallest.run.write_run.Goals.{After-push, In-loop-set}
 
 -- The first item of the run is paid.
-begins : (g : _) (c : After-push g)
+begins : (c : After-push)
     → IsPaidAt c.args.setting c.args.set c.args.items.now c.args.at Fnc1 Waiting.Empty (length c.push.new.self.items)
     c.args.total
-begins g c =
+begins c =
     first_at c.args.setting c.args.set c.args.items.now c.args.at Fnc1 (length c.push.new.self.items) c.args.total
     c.requires.at (omega (arith, c.requires.budget, c.push.ensures.len)) (omega (arith, c.requires.total))
 
 -- So is each item where the run goes on.
-goes : (g : _) (c : In-loop-set g)
+goes : (c : In-loop-set)
     → IsPaidAt c.args.setting c.args.set c.args.items.now c.loop-set.next Fnc1 c.loop-set.part
     (length c.loop-set.words.items) c.args.total
-goes g c =
+goes c =
     run_at _ _ _ _ Fnc1 _ _ _ _ _ (c.requires.plan c.loop-set.next _ c.loop-set.invariant.within)
     c.loop-set.invariant.budget (omega (arith, c.requires.total)) c.goes_on.ensures c.loop-set-test.true
 
 pub push_spelling-part-requires : goal.push_spelling-part-requires
-push_spelling-part-requires g c =
-    let b = begins g (goal.at.push_spelling-part-requires g c).After-push in (
-      search rules,
-      (
-        b.held,
-        (
-          search rules,
-          omega (
-            arith,
-            item_room _ _ _ _ b.budget,
-            ap (λ (p : Waiting). length (part_values p)) c.empty.ensures,
-          ),
-        ),
-      ),
-    )
+push_spelling-part-requires c =
+    let b = begins (goal.at.push_spelling-part-requires c).After-push in record {
+      held = b.held;
+      part = search rules;
+      room = omega (arith, item_room _ _ _ _ b.budget, ap (λ (p : Waiting). length (part_values p)) c.empty.ensures);
+    }
 
 pub loop-set-init : goal.loop-set-init
-loop-set-init g c =
-    let f = begins g (goal.at.loop-set-init g c).After-push in
+loop-set-init c =
+    let f = begins (goal.at.loop-set-init c).After-push in
     let begun = run_begun _ _ _ _ c.latch.ensures c.push.ensures.items in
     let pushed = rw c.empty.ensures at c.push_spelling-part.ensures in
     record {
@@ -61,20 +52,24 @@ loop-set-init g c =
       zero_is = omega arith
 
 pub bounds-items-next : goal.bounds-items-next
-bounds-items-next g c = (goes g (goal.at.bounds-items-next g c).In-loop-set).there
+bounds-items-next c = (goes (goal.at.bounds-items-next c).In-loop-set).there
 
 pub push_item-part-requires : goal.push_item-part-requires
-push_item-part-requires g c =
-    let b = goes g (goal.at.push_item-part-requires g c).In-loop-set in
-    (search rules, (b.held, (search rules, omega (arith, item_room _ _ _ _ b.budget))))
+push_item-part-requires c =
+    let b = goes (goal.at.push_item-part-requires c).In-loop-set in
+    record {
+      held = b.held;
+      part = search rules;
+      room = omega (arith, item_room _ _ _ _ b.budget);
+    }
 
 pub loop-set-smaller : goal.loop-set-smaller
-loop-set-smaller g c = omega (arith, (goes g (goal.at.loop-set-smaller g c).In-loop-set).there)
+loop-set-smaller c = omega (arith, (goes (goal.at.loop-set-smaller c).In-loop-set).there)
 
 pub loop-set-preserved : goal.loop-set-preserved
-loop-set-preserved g c =
+loop-set-preserved c =
     let v = c.loop-set.invariant in
-    let r = goes g (goal.at.loop-set-preserved g c).In-loop-set in
+    let r = goes (goal.at.loop-set-preserved c).In-loop-set in
     record {
       from = omega (arith, v.from);
       within = omega (arith, r.there);
@@ -90,14 +85,14 @@ loop-set-preserved g c =
     }
 
 pub returns-then-total-len-gt1-clause-budget : goal.returns-then-total-len-gt1-clause-budget
-returns-then-total-len-gt1-clause-budget g c =
+returns-then-total-len-gt1-clause-budget c =
     let l = (leave_at c.args.setting c.args.set (drop c.loop-set.next c.args.items.now) _ c.loop-set.part
     (length c.loop-set.words.items) c.args.total _ (c.requires.plan c.loop-set.next _ c.loop-set.invariant.within)
     c.loop-set.invariant.budget c.goes_on.ensures c.loop-set-test.false) in
     omega (arith, unlatched (parts_cost c.args.setting (drop c.loop-set.next c.args.items.now)))
 
 pub returns-then-total-len-gt1-clause-part : goal.returns-then-total-len-gt1-clause-part
-returns-then-total-len-gt1-clause-part g c =
+returns-then-total-len-gt1-clause-part c =
     λ any. written_unlatch any c.args.set c.args.total c.args.words.now.items c.loop-set.words.items
     c.push-then-total-len-gt1.new.self.items
     (take (c.loop-set.next - c.args.at) (drop c.args.at c.args.items.now)) c.loop-set.part
@@ -108,7 +103,7 @@ returns-then-total-len-gt1-clause-part g c =
     c.loop-set.invariant.within) c.loop-set.invariant.so_far c.push-then-total-len-gt1.ensures.items
 
 pub returns-else-total-len-gt1-clause-budget : goal.returns-else-total-len-gt1-clause-budget
-returns-else-total-len-gt1-clause-budget g c =
+returns-else-total-len-gt1-clause-budget c =
     omega (
       arith,
       (leave_at c.args.setting c.args.set (drop c.loop-set.next c.args.items.now) _ c.loop-set.part
@@ -119,7 +114,7 @@ returns-else-total-len-gt1-clause-budget g c =
     )
 
 pub returns-else-total-len-gt1-clause-part : goal.returns-else-total-len-gt1-clause-part
-returns-else-total-len-gt1-clause-part g c =
+returns-else-total-len-gt1-clause-part c =
     λ any. written_bare any c.args.set c.args.total c.args.words.now.items c.loop-set.words.items
     (take (c.loop-set.next - c.args.at) (drop c.args.at c.args.items.now)) c.loop-set.part
     (leave_at c.args.setting c.args.set (drop c.loop-set.next c.args.items.now) _ c.loop-set.part

@@ -4,7 +4,7 @@ use Rattle.dm_words.proofs.RunWritten.{IsRunSoFar}
 use Rattle.dm_words.proofs.smallest.run.write_run.Given as goal
 
 abbrev pub invariant-loop-set : goal.invariant-loop-set
-invariant-loop-set g l = record {
+invariant-loop-set l = record {
   from : l.at + 1 ≤ l.next;
   within : l.next ≤ length l.items;
   budget : length l.words.items + owed (length (part_values l.part))
@@ -13,4 +13,4 @@ invariant-loop-set g l = record {
 }
 
 abbrev pub decreases-loop-set : goal.decreases-loop-set
-decreases-loop-set g l = length l.items - l.next
+decreases-loop-set l = length l.items - l.next
