@@ -92,6 +92,13 @@ static void keep_border(struct border *out, int room, int *count, struct border 
     out[at] = border;
 }
 
+/* Whether one of two strips may alternate, in some border. */
+static bool may_alternate(struct strip one, struct strip other) {
+    int least = one.alternating < other.alternating ? one.alternating : other.alternating,
+        most = one.alternating > other.alternating ? one.alternating : other.alternating;
+    return most >= LEAST_BROKEN * one.count || one.count - least >= LEAST_BROKEN * one.count;
+}
+
 /* Keeps the borders of so many columns and rows that begin at a module. */
 static void look_at(const struct both *both, int x, int y, struct extent box, struct border *out, int room,
                     int *count) {
@@ -99,7 +106,8 @@ static void look_at(const struct both *both, int x, int y, struct extent box, st
                                       [BELOW] = strip_of(&both->rows, y + box.high - 1, x, box.wide),
                                       [LEFT] = strip_of(&both->columns, x, y, box.high),
                                       [RIGHT] = strip_of(&both->columns, x + box.wide - 1, y, box.high)};
-    for (int way = 0; way < 2 * WAYS; way++) {
+    bool may_be = may_alternate(strips[TOP], strips[BELOW]) && may_alternate(strips[LEFT], strips[RIGHT]);
+    for (int way = 0; way < 2 * WAYS && may_be; way++) {
         int turns = way % WAYS;
         bool is_inverted = way >= WAYS;
         struct right right = right_in(strips, turns);

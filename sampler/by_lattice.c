@@ -13,6 +13,7 @@ enum { SPOTS = 12, BORDERS = 6, LEAST_EXTENT = 8, CLEAR = 6 };
 struct tries {
     int spots, lattices;
 };
+static const double LEAST_OF_SEED = 0.8; /* of the edges of the modules around a place, for a net to grow there */
 static const struct tries USUAL = {SPOTS, 2 * MOST_LATTICES};
 /* Where dots are thicker than they are, which is tried last, what a symbol shows is among the first. */
 static const struct tries OF_DOTS = {2, 2};
@@ -53,6 +54,19 @@ static bool is_large(const struct lattice *lattice) {
            lattice->part.last_y - lattice->part.first_y >= LEAST_EXTENT;
 }
 
+/* Keeps a seed, if it is among the likeliest. */
+static void keep_seed(struct seeds *seeds, struct seed seed) {
+    int at = seeds->count;
+    while (at > 0 && seeds->items[at - 1].near < seed.near)
+        at--;
+    if (at == MOST_SEEDS)
+        return;
+    seeds->count += seeds->count < MOST_SEEDS;
+    for (int k = seeds->count - 1; k > at; k--)
+        seeds->items[k] = seeds->items[k - 1];
+    seeds->items[at] = seed;
+}
+
 static void search_spot(struct search *search, const struct view *view, const struct plane *steep,
                         const struct spot *spot, struct field *field) {
     struct homography lattices[2 * MOST_LATTICES];
@@ -69,10 +83,16 @@ static void search_spot(struct search *search, const struct view *view, const st
     if (view->tries.lattices > MOST_LATTICES)
         count += find_lattices(ground.grey, spot->x, spot->y, 0, lattices + count);
     size_t before = search->count;
-    for (int k = 0; k < count && k < view->tries.lattices && !is_over(search) && search->count == before; k++)
-        if (grow_lattice(&ground, &lattices[k], search->judge.places, search->judge.limit, &lattice) &&
-            is_large(&lattice))
+    struct seed seed = {.level = view->level};
+    for (int k = 0; k < count && k < view->tries.lattices && !is_over(search) && search->count == before; k++) {
+        bool holds = grow_lattice(&ground, &lattices[k], search->judge.places, search->judge.limit, &lattice);
+        if (holds && is_large(&lattice))
             search_field(search, view, &lattice, field);
+        if (lattice.near > seed.near)
+            seed.to_picture = lattice.warp.to_picture, seed.near = lattice.near;
+    }
+    if (view->inverted != NULL && seed.near >= LEAST_OF_SEED)
+        keep_seed(&search->seeds, seed);
 }
 
 void search_lattices(struct search *search, const struct sight *sight, const struct sight *inverted, int level) {

@@ -6,6 +6,7 @@
  *     ecc200_sample_find           the same symbols, what was found and not read, and whether the search ended early
  *     ecc200_sample_usual_search   the usual search
  *     ecc200_sample_measure        how good the print of a symbol is
+ *     ecc200_sample_other_code     the QR code, Aztec code or bar code that a picture shows
  *     ecc200_sample_abi            which version of this interface the library has
  *
  * An example, for a picture of `width` by `height` bytes, 0 black and 255 white:
@@ -191,6 +192,13 @@ typedef struct ecc200_sample_quality {
  * found: then all numbers are 0. */
 uint16_t ecc200_sample_measure(const uint8_t *luminance, size_t width, size_t height, size_t stride,
                                const ecc200_sample *symbol, ecc200_sample_quality *out);
+
+/* The code of another kind that a picture shows clearly, for who found no symbol in it: "a QR code", "an Aztec code",
+ * "a PDF417 code", or "a bar code", which is Code 128, 93 or 39, EAN, UPC-A or Interleaved 2 of 5. QR codes and Aztec
+ * codes may be turned by any angle, the others by quarters. Then `corners` are where it lies, going around it. NULL if
+ * there is none, no memory, or a size that isn't sampled. */
+const char *ecc200_sample_other_code(const uint8_t *luminance, size_t width, size_t height, size_t stride,
+                                     ecc200_sample_point corners[4]);
 
 #if defined(__cplusplus)
 }

@@ -18,14 +18,14 @@ static int begin(int first, int last, int *count) {
     return (first + last - *count) / 2;
 }
 
-/* Writes the middle between the least and the most of the numbers around each. */
+/* Writes the middle between the least and the most of the numbers around each, but for those below 0. */
 static void find_middles(const float *of, int wide, int high, float *middles) {
     for (int y = 0; y < high; y++)
         for (int x = 0; x < wide; x++) {
             float least = of[y * MOST_FIELD + x], most = least;
             for (int row = y - AROUND; row <= y + AROUND; row++)
                 for (int column = x - AROUND; column <= x + AROUND; column++) {
-                    if (row < 0 || column < 0 || row >= high || column >= wide)
+                    if (row < 0 || column < 0 || row >= high || column >= wide || of[row * MOST_FIELD + column] < 0)
                         continue;
                     float here = of[row * MOST_FIELD + column];
                     least = here < least ? here : least, most = here > most ? here : most;
@@ -34,18 +34,25 @@ static void find_middles(const float *of, int wide, int high, float *middles) {
         }
 }
 
+void divide_field(const float *of, struct field *out) {
+    float middles[MOST_FIELD * MOST_FIELD];
+    find_middles(of, out->wide, out->high, middles);
+    for (int y = 0; y < out->high; y++)
+        for (int x = 0; x < out->wide; x++) {
+            float here = of[y * MOST_FIELD + x];
+            out->dark[y * MOST_FIELD + x] = here >= 0 && here < middles[y * MOST_FIELD + x];
+        }
+}
+
 void sample_field(const struct plane *grey, const struct lattice *lattice, struct field *out, int *first_x,
                   int *first_y) {
-    float of[MOST_FIELD * MOST_FIELD], middles[MOST_FIELD * MOST_FIELD];
+    float of[MOST_FIELD * MOST_FIELD];
     *first_x = begin(lattice->part.first_x, lattice->part.last_x, &out->wide);
     *first_y = begin(lattice->part.first_y, lattice->part.last_y, &out->high);
     for (int y = 0; y < out->high; y++)
         for (int x = 0; x < out->wide; x++)
             of[y * MOST_FIELD + x] = brightness_of(grey, &lattice->warp, *first_x + x, *first_y + y);
-    find_middles(of, out->wide, out->high, middles);
-    for (int y = 0; y < out->high; y++)
-        for (int x = 0; x < out->wide; x++)
-            out->dark[y * MOST_FIELD + x] = of[y * MOST_FIELD + x] < middles[y * MOST_FIELD + x];
+    divide_field(of, out);
 }
 
 bool symbol_in(const struct lattice *lattice, int first_x, int first_y, const struct border *border, struct warp *out) {

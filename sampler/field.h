@@ -9,6 +9,10 @@
 void sample_field(const struct plane *grey, const struct lattice *lattice, struct field *out, int *first_x,
                   int *first_y);
 
+/* Tells which modules of a field are dark, by how bright they and those around them are, MOST_FIELD to a row; those
+ * below 0 aren't known, and light. */
+void divide_field(const float *of, struct field *out);
+
 /* The map from the modules of the upright symbol with this border to pixels. False if there is none. */
 bool symbol_in(const struct lattice *lattice, int first_x, int first_y, const struct border *border, struct warp *out);
 

@@ -51,17 +51,32 @@ static double module_width(const struct plane *dark, struct point from, struct p
 
 /* ---- Elbows */
 
-/* The share of dark pixels along a line, `inwards` pixels to its right. */
-static double solidity(const struct plane *dark, struct point from, struct point to, double inwards) {
+/* The share of dark pixels along a line, `inwards` pixels to its right; if it is below `least`, any that is. */
+static double solidity(const struct plane *dark, struct point from, struct point to, double inwards, double least) {
     struct point way = difference(to, from);
     double whole = length(way);
     struct point across = scale_by(point_at(-way.y, way.x), inwards / whole);
     int steps = (int)whole + 1, count = 0;
-    for (int k = 0; k <= steps; k++) {
+    double most_light = (1 - least) * (steps + 1) + 1;
+    for (int k = 0; k <= steps && k - count <= most_light; k++) {
         struct point at = sum(sum(from, scale_by(way, (0.04 + 0.92 * k) / (steps + 1))), across);
         count += dark_at(dark, at);
     }
     return (double)count / (steps + 1);
+}
+
+/* How dark both borders of an elbow are inside, and less so outside; below LEAST_SOLID if one isn't. */
+static double solidity_of(const struct plane *dark, const struct elbow *elbow) {
+    const struct point from[] = {elbow->right, elbow->corner}, to[] = {elbow->corner, elbow->top};
+    double inside[2], solid = 1;
+    for (int side = 0; side < 2; side++) {
+        inside[side] = solidity(dark, from[side], to[side], 1.2, LEAST_SOLID);
+        if (inside[side] < LEAST_SOLID)
+            return 0;
+    }
+    for (int side = 0; side < 2; side++)
+        solid = fmin(solid, inside[side] - 0.5 * solidity(dark, from[side], to[side], -1.8, 0));
+    return solid;
 }
 
 /* How often dark turns to light, or back, along a line. */
@@ -124,12 +139,7 @@ static struct elbow elbow_of(const struct sought *in, const struct line *bottom,
     if (gap > MOST_GAP + MOST_GAP_SHARE * wide || other > MOST_GAP + MOST_GAP_SHARE * high ||
         embrace_known(in->known, in->scale, elbow.corner, elbow.top, elbow.right))
         return none;
-    double solid = 1;
-    for (int side = 0; side < 2; side++) {
-        struct point from = side ? elbow.corner : elbow.right, to = side ? elbow.top : elbow.corner;
-        double inside = solidity(dark, from, to, 1.2), outside = solidity(dark, from, to, -1.8);
-        solid = fmin(solid, inside - 0.5 * outside);
-    }
+    double solid = solidity_of(dark, &elbow);
     if (solid < LEAST_SOLID)
         return none;
     double shorter = fmin(length(difference(elbow.right, elbow.corner)), length(difference(elbow.top, elbow.corner)));

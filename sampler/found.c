@@ -34,7 +34,7 @@ static int cells_in(int pixels) {
 }
 
 bool known_make(int width, int height, struct known *out) {
-    *out = (struct known){.across = cells_in(width), .down = cells_in(height)};
+    *out = (struct known){.across = cells_in(width), .down = cells_in(height), .is_empty = true};
     out->cells = calloc((size_t)out->across, (size_t)out->down);
     return out->cells != NULL;
 }
@@ -56,6 +56,7 @@ void add_known(struct known *known, const ecc200_sample *symbol) {
     for (int y = nearest_pixel(least_y, known->down, 0); y <= nearest_pixel(most_y, known->down, 0); y++)
         for (int x = nearest_pixel(least_x, known->across, 0); x <= nearest_pixel(most_x, known->across, 0); x++)
             *cell_at(known, x, y) |= shows_at(symbol, point_at((x + 0.5) * CELL, (y + 0.5) * CELL));
+    known->is_empty = false;
 }
 
 bool is_known_at(const struct known *known, struct point at) {
@@ -71,7 +72,7 @@ bool embrace_known(const struct known *known, double scale, struct point corner,
     enum { PLACES = sizeof places / sizeof *places };
     struct point along = scale_by(difference(right, corner), scale),
                  up = scale_by(difference(top, corner), scale), from = scale_by(corner, scale);
-    for (int row = 0; row < PLACES; row++)
+    for (int row = 0; row < PLACES && !known->is_empty; row++)
         for (int column = 0; column < PLACES && row + column <= PLACES; column++) {
             struct point at = sum(scale_by(along, places[column]), scale_by(up, places[row]));
             if (is_known_at(known, sum(from, at)))

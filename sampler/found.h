@@ -2,6 +2,7 @@
 #ifndef FOUND_H
 #define FOUND_H
 
+#include <stdbool.h>
 #include <stddef.h>
 #include <stdint.h>
 
@@ -21,6 +22,7 @@ bool shows_at(const ecc200_sample *symbol, struct point at);
 struct known {
     uint8_t *cells;
     int across, down;
+    bool is_empty;
 };
 
 /* A map on which there is nothing yet. False if there is no memory. */

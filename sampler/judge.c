@@ -2,7 +2,6 @@
 
 #include <string.h>
 
-#include "sampling.h"
 #include "turns.h"
 #include "witness.h"
 
@@ -27,6 +26,7 @@ enum { CHECKS_OF_A_CORRECTION = 2 };
 /* Checks that tell a symbol with doubtful modules from chance, which meets each of them one time in 256. */
 enum { LEAST_EVIDENCE = 3 };
 static const double LEAST_SHARE = 0.4, LEAST_SHARE_OF_CLEAR = 0.25, LEAST_BENT = 0.6;
+static const double LEAST_FIRST = 0.3, LEAST_FIRST_OF_CLEAR = 0.2; /* before a fit to the edges */
 static const double LEAST_NEAR = 0.6; /* of the edges of a border that is bent: by chance, a third */
 
 /* What is spent on a module that is sampled, told apart, read, or looked at for damage. */
@@ -277,7 +277,7 @@ static void try_regions(struct trials *trials, struct lie *lie, struct brightnes
         int x = k % across * region.wide, y = k / across * region.high;
         struct part part = {x, x + region.wide, y, y + region.high};
         lie->warps[k] = *trials->warp;
-        refine(trials->judge->smooth, layout, part, 0.3, 2, &lie->warps[k]);
+        refine(trials->judge->smooth, layout, part, 0.3, 2, 0, &lie->warps[k]);
     }
     sample_modules(trials->judge->picture, layout, lie, brightnesses);
     try_rules(trials, brightnesses, RULE_COUNT);
@@ -351,9 +351,13 @@ static void try_known_damage(struct trials *trials, struct lie *lie, struct brig
     memset(judge->trial->doubtful, 0, sizeof judge->trial->doubtful);
 }
 
-/* Keeps a placement that wasn't read, if it is one of the picture at its full size. */
+/* Whether placements that aren't read are tried once more, as smeared: those of the picture itself at its full size. */
+static bool is_for_later(const struct judge *judge) {
+    return judge->scale == 1 && judge->original == NULL;
+}
+
 static void keep_for_later(struct judge *judge, const struct smeared *smeared) {
-    if (judge->scale == 1)
+    if (is_for_later(judge))
         keep_smeared(&judge->smeared_places, smeared);
 }
 
@@ -365,8 +369,9 @@ bool judge_placement(struct judge *judge, const struct placement *placement, ecc
         return false;
     struct warp warp = placement->warp;
     struct part whole = {0, layout->extent.wide, 0, layout->extent.high};
+    double first = is_for_later(judge) ? 0 : placement->shows_border ? LEAST_FIRST_OF_CLEAR : LEAST_FIRST;
     spend_on_edges(judge, layout, 4);
-    double share = refine(judge->smooth, layout, whole, 0.01, 4, &warp);
+    double share = refine(judge->smooth, layout, whole, 0.01, 4, first, &warp);
     struct smeared smeared = {.at = tried_at(&warp, layout->extent, judge->scale, judge->is_inverted), .warp = warp};
     smeared.score = share * length(difference(smeared.at.corners[2], smeared.at.corners[0]));
     if (share < (placement->shows_border ? LEAST_SHARE_OF_CLEAR : LEAST_SHARE)) {
@@ -402,6 +407,30 @@ bool judge_gleaming(struct judge *judge, const struct smeared *gleaming, ecc200_
     sample_modules(judge->picture, layout, &lie, &brightnesses);
     take_darkest(&brightnesses);
     try_rules(&trials, &brightnesses, RULE_COUNT);
+    return trials.best_cost >= 0;
+}
+
+bool judge_modules(struct judge *judge, const struct brightnesses *brightnesses, const struct point corners[4],
+                   ecc200_sample *out) {
+    struct extent extent = brightnesses->extent;
+    const struct layout *layout = layout_of(judge->layouts, extent);
+    struct point modules[4];
+    struct warp warp = {.is_bent = false};
+    for (int k = 0; k < 4; k++)
+        modules[k] = corner_of(extent, k);
+    if (layout == NULL)
+        judge->has_no_memory = true;
+    if (layout == NULL || shorter_side(extent) < judge->least_side || !through(modules, corners, &warp.to_picture))
+        return false;
+    struct trials trials = {judge, layout, &warp, out, -1, 0, false};
+    for (int k = 0; k < RULE_COUNT && trials.best_cost != 0 && !limit_reached(judge->limit); k++) {
+        spend(judge, layout, WORK_OF_A_RULE + 2 * WORK_OF_READING);
+        if (!tell_apart(brightnesses, layout->colour, RULES[k], judge->seen))
+            continue;
+        try_undone(&trials, layout->is_mirrored);
+        if (is_square(extent))
+            try_undone(&trials, true);
+    }
     return trials.best_cost >= 0;
 }
 

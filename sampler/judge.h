@@ -3,6 +3,7 @@
 #define JUDGE_H
 
 #include "doubt.h"
+#include "sampling.h"
 #include "smear.h"
 #include "track.h"
 #include "tried.h"
@@ -36,6 +37,11 @@ bool judge_placement(struct judge *judge, const struct placement *placement, ecc
 /* Whether a placement is read by its modules' darkest quarters, as where gleams lie across them; then `out` is what it
  * says. */
 bool judge_gleaming(struct judge *judge, const struct smeared *gleaming, ecc200_sample *out);
+
+/* Whether modules of which it is known how bright they are, and where their corners lie in `picture`, are read with two
+ * checks of each block unused; then `out` is what they say. */
+bool judge_modules(struct judge *judge, const struct brightnesses *brightnesses, const struct point corners[4],
+                   ecc200_sample *out);
 
 /* Tells the sides of those squares among the smeared placements that are inverted as the picture is, by how evenly
  * their borders turn. */

@@ -29,21 +29,22 @@ static struct warp settled(const struct plane *grey, const struct homography *to
 
 /* Whether a module of a part lies in a known symbol. */
 static bool is_taken(const struct ground *ground, const struct warp *warp, struct part part) {
-    for (int y = part.first_y; y < part.last_y; y++)
+    for (int y = part.first_y; y < part.last_y && !ground->known->is_empty; y++)
         for (int x = part.first_x; x < part.last_x; x++)
             if (is_known_at(ground->known, scale_by(warp_point(warp, x + 0.5, y + 0.5), ground->scale)))
                 return true;
     return false;
 }
 
-/* Whether a part of a lattice has edges that lie on it, of this contrast at least, and is nobody else's. */
-static bool holds(const struct ground *ground, struct layout *room, const struct lattice *lattice, struct part part,
-                  double least) {
+/* The share of clear edges that lie on a lattice, in a part of it, of those of this contrast at least; 0 if there are
+ * too few, or the part is somebody else's. */
+static double near_in(const struct ground *ground, struct layout *room, const struct lattice *lattice, struct part part,
+                      double least) {
     if (is_taken(ground, &lattice->warp, part))
-        return false;
+        return 0;
     lay_out_places(room, part);
     struct support support = support_of(ground->grey, room, &lattice->warp, least);
-    return support.clear >= LEAST_CLEAR && support.near >= LEAST_NEAR;
+    return support.clear >= LEAST_CLEAR ? support.near : 0;
 }
 
 /* The strip of modules just outside one side of a part. */
@@ -70,7 +71,7 @@ static bool grow(const struct ground *ground, struct layout *room, double least,
     bool grows = false;
     for (int side = 0; side < SIDES_OF_A_PART; side++) {
         struct part strip = strip_beside(before, side);
-        fits[side] = fits[side] && holds(ground, room, lattice, strip, least);
+        fits[side] = fits[side] && near_in(ground, room, lattice, strip, least) >= LEAST_NEAR;
         if (fits[side])
             grows = true, lattice->part = both_of(lattice->part, strip);
     }
@@ -84,12 +85,14 @@ static bool has_room(struct part part) {
 bool grow_lattice(const struct ground *ground, const struct homography *to_picture, struct layout *room,
                   struct limit *limit, struct lattice *out) {
     const struct plane *grey = ground->grey;
-    struct lattice lattice = {settled(grey, to_picture), {-FIRST_REACH, FIRST_REACH, -FIRST_REACH, FIRST_REACH}};
+    struct lattice lattice = {settled(grey, to_picture), {-FIRST_REACH, FIRST_REACH, -FIRST_REACH, FIRST_REACH}, 0};
     bool fits[SIDES_OF_A_PART] = {true, true, true, true};
     lay_out_places(room, lattice.part);
-    refine(grey, room, lattice.part, STIFF, 3, &lattice.warp);
+    refine(grey, room, lattice.part, STIFF, 3, 0, &lattice.warp);
     double least = LEAST_SHARE * mean_contrast(grey, room, &lattice.warp);
-    if (!holds(ground, room, &lattice, lattice.part, least))
+    lattice.near = near_in(ground, room, &lattice, lattice.part, least);
+    *out = lattice;
+    if (lattice.near < LEAST_NEAR)
         return false;
     lattice.warp.is_bent = true;
     while (!limit_reached(limit) && has_room(lattice.part) && grow(ground, room, least, fits, &lattice)) {

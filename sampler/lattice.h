@@ -12,6 +12,7 @@ enum { MOST_EXTENT = MOST_SIDE + 16 }; /* modules each way */
 struct lattice {
     struct warp warp; /* from modules to pixels */
     struct part part; /* the modules that it has */
+    double near;      /* of the clear edges of its first modules, the share that is where it should be */
 };
 
 /* Where lattices grow: a level, and what is known of the picture, `scale` pixels of which are one of the level. */
@@ -22,7 +23,7 @@ struct ground {
 };
 
 /* Grows a lattice around the origin of the map as far as edges lie on it and no known symbol does, or until the limit.
- * `room` is for its places. False if even the first modules don't fit. */
+ * `room` is for its places. False if even the first modules don't fit, which `out` tells then. */
 bool grow_lattice(const struct ground *ground, const struct homography *to_picture, struct layout *room,
                   struct limit *limit, struct lattice *out);
 

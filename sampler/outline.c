@@ -12,25 +12,44 @@ struct corner {
     int x, y;
 };
 
+/* A corner of the path at which it turns, and its number there. */
+struct turn {
+    struct corner at;
+    int step;
+};
+
 struct tracing {
     const struct plane *dark;
     uint8_t *seen;           /* for each pixel, whether its left side was passed on the way up */
     struct corner *path;
-    int count, room;
+    struct turn *turns;      /* with both ends of the path */
+    int count, turn_count, room;
     double least;
     struct limit *limit;
     struct lines *lines;
 };
 
-static bool push(struct tracing *tracing, int x, int y) {
-    if (tracing->count == tracing->room) {
-        int room = tracing->room ? 2 * tracing->room : 1024;
-        struct corner *path = realloc(tracing->path, (size_t)room * sizeof *path);
-        if (path == NULL)
-            return false;
-        tracing->path = path, tracing->room = room;
-    }
-    tracing->path[tracing->count++] = (struct corner){x, y};
+/* Makes room for one corner more, and a turn at it. False if there is no memory. */
+static bool has_place(struct tracing *tracing) {
+    if (tracing->count < tracing->room)
+        return true;
+    int room = tracing->room ? 2 * tracing->room : 1024;
+    struct corner *path = realloc(tracing->path, (size_t)room * sizeof *path);
+    tracing->path = path != NULL ? path : tracing->path;
+    struct turn *turns = realloc(tracing->turns, (size_t)room * sizeof *turns);
+    tracing->turns = turns != NULL ? turns : tracing->turns;
+    if (path != NULL && turns != NULL)
+        tracing->room = room;
+    return path != NULL && turns != NULL;
+}
+
+static bool push(struct tracing *tracing, int x, int y, bool is_turn) {
+    if (!has_place(tracing))
+        return false;
+    struct corner at = {x, y};
+    if (is_turn)
+        tracing->turns[tracing->turn_count++] = (struct turn){at, tracing->count};
+    tracing->path[tracing->count++] = at;
     return true;
 }
 
@@ -43,20 +62,18 @@ static bool trace(struct tracing *tracing, int x, int y) {
     const ptrdiff_t left[] = {-row - 1, -row, 0, -1}, right[] = {-row, 0, -1, -row - 1}; /* the pixels ahead */
     const uint8_t *at = pixel_of(tracing->dark, x, y + 1); /* the pixel to the lower right of the corner */
     int at_x = x, at_y = y + 1, way = 0;
-    tracing->count = 0;
+    tracing->count = tracing->turn_count = 0;
     do {
         if (way == 0)
             tracing->seen[(size_t)(at_y - 1) * (size_t)tracing->dark->width + (size_t)at_x] = 1;
         at_x += step_x[way], at_y += step_y[way], at += step[way];
-        if (tracing->count < MOST_STEPS && !push(tracing, at_x, at_y))
+        int next = at[left[way]] != 0 ? (way + 3) % 4 : at[right[way]] == 0 ? (way + 1) % 4 : way;
+        if (tracing->count < MOST_STEPS && !push(tracing, at_x, at_y, next != way || tracing->count == 0))
             return false;
-        if (at[left[way]] != 0)
-            way = (way + 3) % 4;
-        else if (at[right[way]] == 0)
-            way = (way + 1) % 4;
+        way = next;
     } while (at_x != x || at_y != y + 1 || way != 0);
     limit_spend(tracing->limit, WORK_OF_A_STEP * (int64_t)tracing->count);
-    return push(tracing, tracing->path[0].x, tracing->path[0].y) && tracing->count-- > 0;
+    return push(tracing, tracing->path[0].x, tracing->path[0].y, true) && tracing->count-- > 0;
 }
 
 static struct point place(const struct tracing *tracing, int k) {
@@ -115,14 +132,15 @@ static bool keep(struct lines *lines, struct line line) {
     return enough;
 }
 
-/* Where the path from `first` to `last` is farthest from its chord, and how far. */
+/* At which turn the path from one turn to another is farthest from its chord, and how far: between turns it is
+ * straight, and nearer than at one of them. */
 static double farthest(const struct tracing *tracing, int first, int last, int *where) {
-    struct corner from = tracing->path[first], to = tracing->path[last];
+    struct corner from = tracing->turns[first].at, to = tracing->turns[last].at;
     int64_t chord_x = to.x - from.x, chord_y = to.y - from.y, most = 0;
     bool is_closed = chord_x == 0 && chord_y == 0;
     *where = (first + last) / 2;
     for (int k = first + 1; k < last; k++) {
-        struct corner at = tracing->path[k];
+        struct corner at = tracing->turns[k].at;
         int64_t x = at.x - from.x, y = at.y - from.y, away = is_closed ? x * x + y * y : chord_x * y - chord_y * x;
         away = away < 0 ? -away : away;
         if (away > most)
@@ -136,17 +154,18 @@ static double farthest(const struct tracing *tracing, int first, int last, int *
  * tooth, each time after a look at the whole of what is left, so the limit may be reached here, too. False if there is
  * no memory. */
 static bool cut(const struct tracing *tracing) {
-    int pending[MOST_PENDING][2], depth = 0, opposite;
+    const struct turn *turns = tracing->turns;
+    int pending[MOST_PENDING][2], depth = 0, opposite, end = tracing->turn_count - 1;
     bool enough = true;
-    farthest(tracing, 0, tracing->count, &opposite);
-    pending[depth][0] = opposite, pending[depth++][1] = tracing->count;
+    farthest(tracing, 0, end, &opposite);
+    pending[depth][0] = opposite, pending[depth++][1] = end;
     pending[depth][0] = 0, pending[depth++][1] = opposite;
     while (enough && depth > 0 && !limit_reached(tracing->limit)) {
         int first = pending[--depth][0], last = pending[depth][1], where;
-        if (last - first < tracing->least)
+        if (turns[last].step - turns[first].step < tracing->least)
             continue;
         if (farthest(tracing, first, last, &where) <= BEND) {
-            struct line line = fit_line(tracing, first, last);
+            struct line line = fit_line(tracing, turns[first].step, turns[last].step);
             if (extent(&line) >= tracing->least)
                 enough = keep(tracing->lines, line);
         } else if (depth + 2 <= MOST_PENDING) {
@@ -310,5 +329,6 @@ bool find_lines(const struct plane *dark, double least, struct limit *limit, str
     }
     free(tracing.seen);
     free(tracing.path);
+    free(tracing.turns);
     return enough && join(out, limit);
 }

@@ -6,6 +6,7 @@
 #pragma GCC visibility pop
 
 #include "order.h"
+#include "other.h"
 #include "search.h"
 
 uint16_t ecc200_sample_abi(void) {
@@ -104,4 +105,10 @@ uint16_t ecc200_sample_picture(const uint8_t *luminance, size_t width, size_t he
     *count = search.count;
     free(unread);
     return code;
+}
+
+const char *ecc200_sample_other_code(const uint8_t *luminance, size_t width, size_t height, size_t stride,
+                                     ecc200_sample_point corners[4]) {
+    struct plane picture = picture_of(luminance, width, height, stride);
+    return picture.pixels != NULL ? other_code(&picture, corners) : NULL;
 }

@@ -8,6 +8,7 @@ enum { CALM_LEVELS = 3, LATTICE_LEVELS = 4, LEAST_LEVEL = 24 };
 enum { LEAST_CONTRAST = 24, LEAST_OF_REMADE = 6 }; /* levels */
 static const struct surroundings WIDE = {8, 2, LEAST_CONTRAST}, CLOSE = {8, 1, LEAST_CONTRAST},
                                  OF_REMADE = {8, 1, LEAST_OF_REMADE};
+enum { FOR_NETS = 20 }; /* percent of the usual work */
 static const double LEAST_LINE = 10; /* pixels of a level */
 
 /* At which level dots are looked for that have at most so many pixels to both sides of each of theirs. */
@@ -52,14 +53,13 @@ void note_lack(struct search *search, bool is_made) {
     search->judge.has_no_memory |= !is_made && !limit_reached(search->judge.limit);
 }
 
-static void judge_by(struct search *search, const struct sight *sight) {
+void judge_by(struct search *search, const struct sight *sight) {
     search->judge.picture = &sight->picture, search->judge.smooth = &sight->levels[0],
     search->judge.is_inverted = sight->is_inverted, search->judge.is_thick = sight->is_thick,
     search->judge.scale = 1 << sight->level;
 }
 
-/* Takes note of a symbol that has been read. */
-static void add_found(struct search *search) {
+void add_found(struct search *search) {
     add_known(&search->known, &search->found[search->count++]);
     limit_renew(search->judge.limit);
 }
@@ -298,7 +298,7 @@ static void search_clearly(struct search *search) {
 }
 
 /* By the solid borders of a calm picture, and then by other solid borders. What is left of the limit is for smears, and
- * then for dots, which take more. */
+ * then for dots, which take more; nets have work of their own. */
 static void search_deeply(struct search *search) {
     struct sight *plain = &search->sights[0], *inverted = &search->sights[1];
     search_levels(search, plain, search_calm);
@@ -308,12 +308,14 @@ static void search_deeply(struct search *search) {
     search_smeared(search);
     search_dots(search, plain);
     search_dots(search, inverted);
+    limit_begin_anew(search->judge.limit, FOR_NETS);
+    search_nets(search);
 }
 
 void search_picture(struct search *search, const struct plane *picture, bool is_remade) {
     struct sight *plain = &search->sights[0], *inverted = &search->sights[1];
     plain->picture = *picture, inverted->is_inverted = true;
-    search->by = is_remade ? OF_REMADE : WIDE;
+    search->by = is_remade ? OF_REMADE : WIDE, search->seeds.count = 0;
     note_lack(search, make_levels(plain, search->judge.limit));
     search_clearly(search);
     if (!is_remade && !is_over(search))

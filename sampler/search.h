@@ -17,6 +17,19 @@ struct sight {
     bool is_thick;               /* whether the picture is of dots made thicker: between them all is flat */
 };
 
+/* Where modules may be: from those around a place to the pixels of a level, and the share of edges that fit. */
+struct seed {
+    struct homography to_picture;
+    int level;
+    double near;
+};
+
+enum { MOST_SEEDS = 3 };
+struct seeds {
+    struct seed items[MOST_SEEDS]; /* the likeliest, one at a place */
+    int count;
+};
+
 struct search {
     struct judge judge;
     struct sight sights[2]; /* as it is, and inverted */
@@ -27,6 +40,7 @@ struct search {
     size_t count, room;
     struct known known;   /* where they are */
     struct surroundings by; /* what is dark is darker than these */
+    struct seeds seeds;     /* of the lattices that were looked for */
 };
 
 /* Whether there are enough symbols, or no memory, or no time. */
@@ -34,6 +48,12 @@ bool is_over(const struct search *search);
 
 /* Takes note of a plane that wasn't made: there was no memory, if there was time. */
 void note_lack(struct search *search, bool is_made);
+
+/* Lets a sight be judged. */
+void judge_by(struct search *search, const struct sight *sight);
+
+/* Takes note of a symbol that has been read. */
+void add_found(struct search *search);
 
 /* Makes 0, in what a level shows as dark or steep, the symbols that have been found, so that they cost no more time. */
 void blank_found(const struct search *search, int level, struct plane *plane);
@@ -46,6 +66,10 @@ bool judge_all(struct search *search, const struct sight *sight, struct placemen
  * are light on dark by the sight in which these are dark; or NULL if they aren't looked for, as where dots are thicker
  * than they are, which is searched at fewer places. */
 void search_lattices(struct search *search, const struct sight *sight, const struct sight *inverted, int level);
+
+/* Searches by nets that grow where lattices were looked for, over a surface that is bent anyhow. That is for pictures
+ * in which nothing else has been found. */
+void search_nets(struct search *search);
 
 /* Searches a picture, and frees it if it is owned: for all that it shows clearly, and, unless it is what a picture was
  * made into, for all that can be made out as well. */

@@ -104,14 +104,28 @@ struct fan {
     double shift, shift_reach, shift_step, angle, angle_reach, angle_step;
 };
 
+enum { MOST_ANGLES = 300 };
+
+/* The angles of a fan, and the directions that they turn one to; returns their number. */
+static int find_directions(const struct fan *fan, struct point along, double angles[MOST_ANGLES],
+                           struct point out[MOST_ANGLES]) {
+    int count = 0;
+    for (double a = fan->angle - fan->angle_reach; a <= fan->angle + fan->angle_reach && count < MOST_ANGLES;
+         a += fan->angle_step, count++)
+        angles[count] = a, out[count] = turn_by(along, a);
+    return count;
+}
+
 /* Looks at the tracks of a fan, and if one is better than the best, turns the fan's middle to it. */
 static void look_around(const struct scene *scene, const struct start *start, struct fan *fan, struct track *best) {
     struct fan from = *fan;
-    double last = from.shift + from.shift_reach + 0.01;
+    double angles[MOST_ANGLES], last = from.shift + from.shift_reach + 0.01;
+    struct point directions[MOST_ANGLES];
+    int count = find_directions(&from, start->along, angles, directions);
     for (double s = from.shift - from.shift_reach; s <= last && !limit_reached(scene->limit); s += from.shift_step)
-        for (double a = from.angle - from.angle_reach; a <= from.angle + from.angle_reach; a += from.angle_step) {
+        for (int k = 0; k < count; k++) {
             struct track track = {.from = sum(start->end, scale_by(start->inwards, s * start->module)),
-                                  .along = turn_by(start->along, a)};
+                                  .along = directions[k]};
             int steps = follow(scene->grey, &track, start->module, 1.4 * start->whole, start->least);
             limit_spend(scene->limit, WORK_OF_A_TRACK + WORK_OF_A_STEP * (int64_t)steps);
             track.score -= 0.3 * fabs(s - 0.5);
@@ -121,7 +135,7 @@ static void look_around(const struct scene *scene, const struct start *start, st
                 darkness_beside(scene->dark, &track, scale_by(start->inwards, -1), start->module, start->whole);
             track.score *= 1 - beside;
             if (track.score > best->score)
-                *best = track, fan->shift = s, fan->angle = a;
+                *best = track, fan->shift = s, fan->angle = angles[k];
         }
 }
 

@@ -152,7 +152,7 @@ int64_t work_of_fitting(const struct layout *layout) {
 }
 
 double refine(const struct plane *plane, const struct layout *layout, struct part part, double stiff, int rounds,
-              struct warp *warp) {
+              double least, struct warp *warp) {
     double share = 0;
     for (int round = 0; round < rounds; round++) {
         struct edge edges[MOST_LOOKED_AT];
@@ -169,6 +169,8 @@ double refine(const struct plane *plane, const struct layout *layout, struct par
             add_equation(&equations, edges[k].witness, layout->extent, edges[k].offset, off < huber ? 1 : huber / off);
         }
         share = count > 0 ? (double)near / count : 0;
+        if (round == 0 && share < least)
+            break;
         for (int k = 0; k < PARAMETERS; k++)
             equations.matrix[k * PARAMETERS + k] += stiff * (k < 6 ? 1 : 4);
         if (near < PARAMETERS || !solve(equations.matrix, equations.values, PARAMETERS))

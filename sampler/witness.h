@@ -11,9 +11,10 @@ int64_t work_of_fitting(const struct layout *layout);
 
 /* Moves the projection of a warp so that the edges in the part come to lie where the picture shows them. `stiff` says
  * how much it is held back: 0.01 for a whole symbol, more for small parts. Returns the share of edges that the picture
- * shows near where they should be. */
+ * shows near where they should be, before the last round; or before the first one, if it is below `least` then, which
+ * ends that. */
 double refine(const struct plane *plane, const struct layout *layout, struct part part, double stiff, int rounds,
-              struct warp *warp);
+              double least, struct warp *warp);
 
 /* Bends a warp, whose middle and unit are set, in the same way. Returns the share of clear edges that are near where
  * they should be, before the last round. */

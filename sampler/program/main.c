@@ -58,6 +58,17 @@ static enum outcome say_early(const char *file, const ecc200_sample_search *sear
     return ENDED_EARLY;
 }
 
+/* Says which code of another kind a picture shows in which no symbol was found, if one is clear. */
+static void say_other(const char *file, const struct picture *picture) {
+    ecc200_sample_point corners[4];
+    const char *code =
+        ecc200_sample_other_code(picture->luminance, picture->width, picture->height, picture->width, corners);
+    if (code != NULL) {
+        begin_line(file);
+        fprintf(stderr, "no Data Matrix symbol was found, but %s\n", code);
+    }
+}
+
 /* Reports a symbol as a line of JSON, and how good its print is, if that is asked for. */
 static enum outcome report_line(const struct options *options, const char *file, const struct picture *picture,
                                 const ecc200_sample *symbol, bool is_complete) {
@@ -112,6 +123,8 @@ static enum outcome sample(const struct options *options, const char *file, cons
     for (size_t k = 0; k < search.count; k++)
         outcome = worse(outcome, report(options, file, picture, &search.symbols[k], is_complete));
     report_unread(options, file, picture, &search, is_complete);
+    if (search.count == 0)
+        say_other(file, picture);
     return is_complete ? outcome : worse(outcome, say_early(file, &search));
 }
 

@@ -1,22 +1,10 @@
-"""What only a second look at a picture shows: faint symbols, those on dark labels, with gleams across them, small dots,
-and drawings with a pixel or two a module."""
+"""What only a second look shows: faint symbols, dark labels, gleams, small dots, and a pixel or two a module."""
 import json
 import random
 
 from tests.sampler.pictures import grid_of, pgm, pixels_of, run
 
 DARK, LIGHT = 20, 230
-
-
-def told(sampler, rows, *words):
-    """What is said of a picture: its symbols, and the status."""
-    done = run([sampler, "--json", *words], pgm(rows))
-    return [json.loads(line) for line in done.stdout.splitlines()], done.returncode
-
-
-def messages(sampler, rows, *words):
-    said, status = told(sampler, rows, *words)
-    return [one["message"] for one in said], status
 
 
 def faint(message, pixels):
@@ -36,9 +24,8 @@ def on_dark(message, pixels):
 
 def gleaming(message, pixels, apart, thick):
     """A symbol with bright lines across it, so many modules apart along rows and so many half pixels thick."""
-    rows = pixels_of(grid_of(message), pixels, 3, 110, 170)
     return [[255 if (2 * x + y) % (apart * pixels) < thick else level for x, level in enumerate(row)]
-            for y, row in enumerate(rows)]
+            for y, row in enumerate(pixels_of(grid_of(message), pixels, 3, 110, 170))]
 
 
 def bound(grid, module, across):
@@ -51,44 +38,44 @@ def bound(grid, module, across):
 
 
 class Again:
+    def all_say(self, name, rows, messages, *words):
+        """That the symbols in a picture have these messages, and that each is read."""
+        done = run([self.sampler, "--json", *words], pgm(rows))
+        self.row(name, ([json.loads(it)["message"] for it in done.stdout.splitlines()], done.returncode), (messages, 0))
+
     def test_shown_faintly(self):
         """Faint symbols are read, also beside one that is clear, which is told once."""
         for pixels, message in ((4, "FAINT"), (6, "FAINTER"), (9, "FAINTEST")):
-            said = messages(self.sampler, faint(message, pixels))
-            self.row(f"{message}, {pixels} pixels a module", said, ([message], 0))
+            self.all_say(f"{message}, {pixels} pixels a module", faint(message, pixels), [message])
         clear, other = pixels_of(grid_of("CLEAR1"), 5), faint("FAINT2", 5)
-        self.row("beside a clear one", messages(self.sampler, [one + two for one, two in zip(clear, other)], "--all"),
-                 (["CLEAR1", "FAINT2"], 0))
+        self.all_say("beside a clear one", [one + two for one, two in zip(clear, other)], ["CLEAR1", "FAINT2"], "--all")
 
     def test_on_dark(self):
         """What stands on a dark label is read though a lighter ground is near."""
         for pixels in (3, 4, 5):
-            self.row(f"{pixels} pixels a module", messages(self.sampler, on_dark("DARK LABEL", pixels)),
-                     (["DARK LABEL"], 0))
+            self.all_say(f"{pixels} pixels a module", on_dark("DARK LABEL", pixels), ["DARK LABEL"])
 
     def test_gleaming(self):
         """Thin gleams across modules leave these as they are."""
         for pixels, apart, thick in ((5, 5, 4), (5, 7, 5), (6, 5, 4), (6, 7, 5), (12, 7, 14), (12, 9, 12), (14, 7, 12)):
-            said = messages(self.sampler, gleaming("GLEAMING", pixels, apart, thick))
-            self.row(f"{thick / 2} pixels, {apart} modules apart, of {pixels} pixels", said, (["GLEAMING"], 0))
+            self.all_say(f"{thick / 2} pixels, {apart} modules apart, of {pixels} pixels",
+                         gleaming("GLEAMING", pixels, apart, thick), ["GLEAMING"])
 
     def test_bound_dots(self):
         """Dots as zint draws them at its smallest, with binding bars: of three pixels and of one."""
         cross = [[LIGHT, DARK, LIGHT], [DARK, DARK + 9, DARK], [LIGHT, DARK, LIGHT]]
         for name, module in (("three pixels", cross), ("a pixel", [[LIGHT, LIGHT], [LIGHT, DARK]])):
             for message in ("AB", "12345678", "Hello world 123"):
-                said = messages(self.sampler, bound(grid_of(message), module, 1))
-                self.row(f"dots of {name}: {message}", said, ([message], 0))
+                self.all_say(f"dots of {name}: {message}", bound(grid_of(message), module, 1), [message])
 
     def test_one_pixel(self):
         """A pixel a module is enough for a drawing, with a quiet zone or without, and the corners are the picture's."""
         for quiet in (0, 1, 4):
             for message in ("ABC123", "Hello world 123", "X" * 60):
                 grid = grid_of(message)
-                said, status = told(self.sampler, pixels_of(grid, 1, quiet))
+                self.all_say(f"{message} with {quiet} pixels around", pixels_of(grid, 1, quiet), [message])
                 first, last = quiet, quiet + len(grid)
                 corners = [[first, first], [last, first], [last, last], [first, last]]
                 near = [max(abs(a - b) for a, b in zip(got, wanted)) < 0.6
-                        for one in said for got, wanted in zip(one["corners"], corners)]
-                self.row(f"{message} with {quiet} pixels around", ([one["message"] for one in said], near, status),
-                         ([message], [True] * 4, 0))
+                        for got, wanted in zip(self.first(pixels_of(grid, 1, quiet))["corners"], corners)]
+                self.row(f"{message} with {quiet} pixels around: corners", near, [True] * 4)

@@ -1,5 +1,4 @@
-/* Calls the sampler's library with wrong arguments and right ones, on a picture from standard input;
- * for tests/sampler. */
+/* Calls the sampler's library with wrong arguments and right ones, on a picture from standard input. */
 #include <ecc200_sample.h>
 #include <stdio.h>
 #include <string.h>

@@ -1,5 +1,4 @@
-/* Gives a program that asks for the clock its processor's time, so that a busy machine doesn't matter; for
- * tests/sampler, by LD_PRELOAD. */
+/* Gives a program that asks for the clock its processor's time, whatever else runs; for LD_PRELOAD. */
 #define _GNU_SOURCE
 #include <sys/syscall.h>
 #include <time.h>

@@ -1,4 +1,5 @@
-"""What the cases of the sampler share: it is built once as it is, and once with the sanitisers."""
+"""What the cases of the sampler share: it is built once as it is, and once with the sanitisers; and searches by its
+shared library, called from C, that may do more work than usual, or less."""
 import json
 import os
 
@@ -34,7 +35,7 @@ class SamplerCase(Rows):
         """Builds the sampler with these flags of the compiler."""
         os.makedirs(folder)
         env = commands.environment(ECC200_FOLDER=places.BUILT)
-        done = commands.run([places.path("sampler", "build"), folder, *flags], env=env, timeout=600)
+        done = commands.run([os.path.join(cls.sources, "build"), folder, *flags], env=env, timeout=600)
         cls.builds.append((f"sampler/build {' '.join(flags)}", (done.status, done.errors.decode()), (0, "")))
         return os.path.join(folder, "dm_sample")
 
@@ -50,10 +51,18 @@ class SamplerCase(Rows):
         done = run([self.sampler, *words], picture if isinstance(picture, bytes) else pgm(picture))
         self.row(name, (done.returncode, done.stdout.decode()), (0, record(grid)))
 
+    def told(self, picture, *words):
+        """What the sampler tells of each symbol in a picture, which is rows of levels, or what a file has."""
+        done = run([self.sampler, "--json", *words], picture if isinstance(picture, bytes) else pgm(picture))
+        return [json.loads(line) for line in done.stdout.splitlines()]
+
+    def first(self, picture, *words):
+        """What it tells of the first one; nothing if there is none."""
+        return next(iter(self.told(picture, "--time=30000", *words)), {})
+
     def says(self, name, picture, message, *words):
         """That the first symbol in a picture, if there is one, has this message."""
-        done = run([self.sampler, "--json", *words], picture if isinstance(picture, bytes) else pgm(picture))
-        self.row(name, json.loads(done.stdout or b"{}").get("message"), message)
+        self.row(name, next(iter(self.told(picture, *words)), {}).get("message"), message)
 
     def compiles(self, source, made, *words, compiler=("cc", "-std=c11")):
         """That a C file of these tests compiles without a warning."""
@@ -66,3 +75,31 @@ class SamplerCase(Rows):
         super().setUp()
         if self.lacking:
             self.skipTest(self.lacking)
+
+
+def paths_for(folder, built, base):
+    """The libraries under the names by which they are loaded."""
+    for name, where in (("libecc200_sample.so", built), ("libecc200.so", base)):
+        told = run(["readelf", "-d", os.path.join(where, name)]).stdout.decode()
+        link = os.path.join(folder, told.split("soname: [")[1].split("]")[0])
+        if not os.path.exists(link):
+            os.symlink(os.path.join(where, name), link)
+    return {**os.environ, "LD_LIBRARY_PATH": folder}
+
+
+class Searches:
+    """A program over the library of a case, or over the one in another folder, compiled with these flags."""
+
+    def __init__(self, case, built=None, *flags):
+        folder, built = case.folder(), built or case.plain
+        self.case, self.made = case, os.path.join(folder, "searched.out")
+        self.env = paths_for(folder, built, places.BUILT)
+        case.compiles("searched.c", self.made, os.path.join(built, "libecc200_sample.so"), places.SHARED,
+                      compiler=("cc", "-std=c11", *flags))
+
+    def of(self, rows, room, percent=100):
+        """What the symbols of a picture say, at most so many, with so many percent of the work, and how it ended."""
+        done = run([self.made, str(room), str(percent)], pgm(rows), env=self.env)
+        self.case.row("searched.c", (done.returncode, done.stderr), (0, b""))
+        *found, ended = done.stdout.decode().splitlines() or [""]
+        return found, ended

@@ -1,6 +1,5 @@
 """Symbols that say more than a message, in pictures: ECI marks, parts of several (structured append) and reader
-programming. What each says, and its symbol, is that of tests/library/contents.py, which doesn't stand on the
-library."""
+programming. What each says, and its symbol, is that of tests/library/contents.py."""
 import json
 import os
 import sys
@@ -8,8 +7,8 @@ import sys
 from tests.library.content_cases import printed
 from tests.library.contents import Content, content_words, said_by, symbol_of
 from tests.library.model import FNC1, ONE
-from tests.sampler.pictures import grid_of, pgm, pixels_of, record, run, turned
-from tests.sampler.searches import Searches
+from tests.sampler.common import Searches
+from tests.sampler.pictures import grid_of, pgm, pixels_of, record, run, spelling, turned
 from tests.sampler.sizes import tilted
 from tests.support import places
 
@@ -41,11 +40,8 @@ def grid(content, named=None):
 
 
 def spelled(content):
-    """A content as the command spells it: items as dm_tool does, ECI marks among them, and the head in front."""
-    head = "\\A{{{}/{}:{:03}{:03}}}".format(*content.head) if isinstance(content.head, tuple) else ""
-    return head + "\\P" * (content.head == PROGRAMMING) + "".join(
-        f"\\E{{{token[0]}}}" if isinstance(token, tuple) else "\\F" if token == FNC1 else "\\\\" if token == 92
-        else chr(token) if 32 <= token < 127 else f"\\x{token:02X}" for token in content.tokens())
+    """A content as the command spells it."""
+    return spelling().spelled(content.items, [(place, number) for number, place in content.marks], content.head)
 
 
 def identifier(content):
@@ -60,17 +56,6 @@ def wanted(content, symbology):
     if content.marks:
         told["marks"] = [[place, number] for number, place in content.marks]
     return told
-
-
-def seen(line):
-    """What a line of JSON tells that a content decides."""
-    told = json.loads(line)
-    return {name: told[name] for name in ("message", "identifier", "head", "marks") if name in told}
-
-
-def told(sampler, rows, *more):
-    """What is told of all symbols of a picture."""
-    return [seen(line) for line in run([sampler, "--json", "--all", *more], pgm(rows)).stdout.splitlines()]
 
 
 def parts():
@@ -104,15 +89,16 @@ class Contents:
             ways |= {f"{rows} by {columns}": pixels_of(grid(content, (rows, columns)), 3)
                      for rows, columns in OTHER_SIZES}
             for way, picture in ways.items():
-                self.row(f"{content}, {way}", told(self.sampler, picture), [wanted(content, identifier(content))])
+                told = [{name: said[name] for name in ("message", "identifier", "head", "marks") if name in said}
+                        for said in self.told(picture, "--all")]
+                self.row(f"{content}, {way}", told, [wanted(content, identifier(content))])
 
     def test_marks(self):
         """Symbols of another encoder in all sizes beyond the squares to 104, and with marks and heads, drawn."""
         count = 0
-        for at, (number, (rows, columns), content, modules) in enumerate(printed()):
+        for at, (number, (rows, columns), content, modules) in enumerate(printed("sizes")):
             lines = [modules[row * columns:(row + 1) * columns] for row in range(rows)]
-            done = run([self.sampler, "--json", "--time=30000"], pgm(pixels_of(lines, 3 + at % 3)))
-            said = json.loads(done.stdout.splitlines()[0]) if done.stdout else {}
+            said = self.first(pixels_of(lines, 3 + at % 3))
             told_of_it = {name: said.get(name) for name in ("rows", "columns", "message", "head", "marks", "grid")}
             all_of_it = {"rows": rows, "columns": columns, "head": None, "marks": None, **wanted(content, None),
                          "grid": ["".join(map(str, line)) for line in lines]}
@@ -122,8 +108,7 @@ class Contents:
         self.row("some say more than a message", count > 5, True)
 
     def test_contents_are_no_records(self):
-        """What says more than a message can't be handed on to dm_tool: it is named, and what stands beside it is handed
-        on."""
+        """What says more than a message isn't handed on to dm_tool: it is named, and what stands beside it is."""
         reasons = {GREEK: "has an ECI", FIRST: "is one part of several (structured append)",
                    CONTENTS[-2]: "programs the reader", CONTENTS[-1]: "programs the reader"}
         square = grid_of("SQUARE")

@@ -1,18 +1,12 @@
 """Known damage: modules that lie outside of the picture, in a glare, beyond a torn edge or under a blot."""
 import itertools
-import json
 import math
 import random
 
 from tests.sampler.pictures import grid_of, message_of, pgm, pixels_of, run
-from tests.sampler.sizes import tilted
+from tests.sampler.sizes import symbols, tilted
 
 SCALE, QUIET = 5, 3
-
-
-def asked(sampler, rows, *more):
-    done = run([sampler, "--json", "--time=30000", *more], pgm(rows))
-    return json.loads(done.stdout.splitlines()[0]) if done.stdout else {}
 
 
 def squares():
@@ -39,15 +33,14 @@ def spotted(grid):
 class Damage:
     def messages(self):
         """Symbols to be damaged: squares, and rectangles of some height."""
-        high = [(message, grid) for rows, columns, message, grid in self.symbols() if 16 <= rows < columns]
-        return squares() + high[::4]
+        return squares() + [(message, grid) for rows, columns, message, grid in symbols() if 16 <= rows < columns][::4]
 
-    def grows(self, sampler, name, message, spoil, steps):
+    def grows(self, name, message, spoil, steps):
         """Damage that grows: what is read is the message, and where that is by doubtful modules, two checks of each
         block are left. Gives the readings by doubtful modules, with their steps."""
         known = []
         for step in steps:
-            last = asked(sampler, spoil(step))
+            last = self.first(spoil(step))
             if last:
                 self.row(f"{name} {step}: the message", last["message"], message)
             if "doubtful" in last:
@@ -58,11 +51,10 @@ class Damage:
         return known
 
     def covered(self, name, message, rows, is_covered, level, steps):
-        """A picture a part of which, by rows and columns of modules, shows a level in the place of a symbol, more and
-        more. Gives how often it is read by doubtful modules."""
+        """A picture of which more and more shows a level in the place of a symbol: how often it is read by doubt."""
         spoil = lambda step: [[level if is_covered(step, y / SCALE - QUIET, x / SCALE - QUIET) else own
                                for x, own in enumerate(row)] for y, row in enumerate(rows)]
-        known = self.grows(self.sampler, name, message, spoil, steps)
+        known = self.grows(name, message, spoil, steps)
         for step, said in known:
             self.row(f"{name} {step}: where",
                      is_known(said, lambda row, column: is_covered(step, row + 0.5, column + 0.5)), True)
@@ -74,7 +66,7 @@ class Damage:
         for message, grid in squares():
             high, wide = len(grid), len(grid[0])
             rows = tilted(pixels_of(grid, SCALE, QUIET), math.pi / 4)
-            for step, said in self.grows(self.sampler, f"{high} by {wide} on its corner, cut off by", message,
+            for step, said in self.grows(f"{high} by {wide} on its corner, cut off by", message,
                                          lambda step: rows[int(1.4 * QUIET * SCALE) + step * SCALE:],
                                          range(int(0.4 * high), int(0.5 * high) + 1)):
                 places = [corner for corner in said["corners"] if corner[1] < 0]
@@ -115,18 +107,16 @@ class Damage:
         for message, grid in self.messages():
             high, wide = len(grid), len(grid[0])
             rows = pixels_of(grid, SCALE, QUIET)
-            for row in range(1, high // 2):
-                for column in range(1, wide - 1):
-                    level = 125 + chance.randrange(-45, 45)
-                    for y in range(SCALE):
-                        first = (QUIET + column) * SCALE
-                        rows[(QUIET + row) * SCALE + y][first:first + SCALE] = [level] * SCALE
-            self.row(f"{high} by {wide} with weak modules", asked(self.sampler, rows), {})
+            for row, column in itertools.product(range(1, high // 2), range(1, wide - 1)):
+                level = 125 + chance.randrange(-45, 45)
+                for y in range(SCALE):
+                    first = (QUIET + column) * SCALE
+                    rows[(QUIET + row) * SCALE + y][first:first + SCALE] = [level] * SCALE
+            self.row(f"{high} by {wide} with weak modules", self.first(rows), {})
 
     def test_evidence(self):
-        """Where doubtful modules leave no more than two checks alone, a symbol is read if its border has no fault, and
-        only then: else what lies beside a symbol may be taken for the rest of a smaller one. Small ones are read by a
-        second look."""
+        """Where doubtful modules leave no more than two checks, a symbol is read only if its border has no fault: else
+        what lies beside one may be taken for the rest of a smaller one. Small ones are read by a second look."""
         corners = (("ABC", 6, 6), ("ABCDE", 4, 7), ("ABCDEFGH", 5, 9))
         for scale, (message, down, right), faults in itertools.product((SCALE, 2), corners, ((), ((0, 3),))):
             grid = grid_of(message)
@@ -135,7 +125,7 @@ class Damage:
             rows, last = pixels_of(grid, scale, QUIET), len(grid) + 2
             for row in rows[(QUIET + down) * scale:(QUIET + last) * scale]:
                 row[(QUIET + right) * scale:(QUIET + last) * scale] = [120] * ((last - right) * scale)
-            said = asked(self.sampler, rows)
+            said = self.first(rows)
             self.row(f"side {len(grid)} without a corner, {len(faults)} faults, {scale} pixels a module",
                      (said.get("message"), said.get("left")), (None, None) if faults else (message, [2]))
 
@@ -143,13 +133,12 @@ class Damage:
         """A margin counts where modules are doubtful, too."""
         message = message_of(62)
         rows = spotted(grid_of(message))
-        left = min(asked(self.sampler, rows)["left"])
-        self.row("with a margin", [asked(self.sampler, rows, f"--margin={unused}").get("message")
+        left = min(self.first(rows)["left"])
+        self.row("with a margin", [self.first(rows, f"--margin={unused}").get("message")
                                    for unused in (left // 2, left // 2 + 1)], [message, None])
 
     def test_doubt_is_no_record(self):
         """What is read without its doubtful modules can't be handed on to dm_tool."""
         done = run([self.sampler, "--time=30000"], pgm(spotted(grid_of(message_of(62)))))
         why = b"was read without its doubtful modules, of which dm_tool knows nothing: --json has it\n"
-        self.row("a symbol with doubtful modules", (done.returncode, done.stdout, done.stderr.endswith(why)),
-                 (1, b"", True))
+        self.row("one with doubtful ones", (done.returncode, done.stdout, done.stderr.endswith(why)), (1, b"", True))

@@ -1,9 +1,8 @@
-"""What a part of the usual work is enough for: what has been found costs no more, and shows where its neighbours
-are."""
+"""What a part of the usual work is enough for: what is found costs no more, and shows where neighbours are."""
 import random
 
+from tests.sampler.common import Searches
 from tests.sampler.pictures import grid_of
-from tests.sampler.searches import Searches
 from tests.sampler.sheets import labels, sheet_of
 from tests.sampler.sizes import tilted
 from tests.sampler.timing import draw
@@ -35,8 +34,7 @@ def noisy(seed):
 
 class Efforts:
     def test_blanked(self):
-        """Once all symbols of a sheet have been read, little is left to be searched, whether it is their texture or
-        their outlines that would take long."""
+        """Once all symbols of a sheet have been read, little is left to be searched, of their texture or outlines."""
         searches, chance = Searches(self), random.Random(43)
         small, large = (["".join(chance.choice("ABCDEFGH") for _ in range(length)) for _ in range(count)]
                         for count, length in ((100, 8), (64, 40)))
@@ -48,8 +46,7 @@ class Efforts:
     def test_captions(self):
         """What looks like a lattice beside symbols that were read doesn't take these in, which would take long."""
         messages, rows = captioned(random.Random(5))
-        self.row("60 symbols with text below with 5 % of the usual work",
-                 Searches(self).of(rows, 61, 5), (said(messages), "whole"))
+        self.row("60 symbols with text and 5 % of the work", Searches(self).of(rows, 61, 5), (said(messages), "whole"))
 
     def test_large_work(self):
         """A large picture is allowed less than a small one, for the time that it takes to open it: of the usual work
@@ -68,8 +65,7 @@ class Efforts:
                  6.5 * small < large < 7.6 * small, True)
 
     def test_neighbours(self):
-        """Symbols that only their neighbours show are found before much else is tried, dark on light and light on
-        dark."""
+        """Symbols that only their neighbours show are found before much else is tried, dark on light or not."""
         searches = Searches(self)
         messages, rows = noisy(34)
         found, _ = searches.of(rows, 64, 12)

@@ -3,7 +3,7 @@ import json
 import math
 import random
 
-from tests.sampler.pictures import grid_of, message_of, pgm, pixels_of, run, sizes
+from tests.sampler.pictures import grid_of, message_of, pgm, pixels_of, run, sizes, turned
 
 
 def crowded(grid, chance, among=(0, 1), around=5):
@@ -17,6 +17,12 @@ def crowded(grid, chance, among=(0, 1), around=5):
 
 def drawn(wide, high, level):
     return [[int(level(x + 0.5, y + 0.5)) for x in range(wide)] for y in range(high)]
+
+
+def turned_by(angle, right, down, side):
+    """Where a place beside the middle of a symbol that is turned lies in it, across and down."""
+    return (math.cos(angle) * right + math.sin(angle) * down + side / 2,
+            math.cos(angle) * down - math.sin(angle) * right + side / 2)
 
 
 def moved_along(rows, path):
@@ -49,39 +55,33 @@ class Hard:
                     right, down = (column, side - 1 - column)[turn % 2], (row, side - 1 - row)[turn // 2]
                     if right + down < reach:
                         grid[row][column] = 0
-            done = run([self.sampler, "--json", "--time=30000"], pgm(pixels_of(grid, 5)))
-            told = json.loads(done.stdout or b"{}")
+            told = self.first(pixels_of(grid, 5))
             self.row(f"side {side} without corner {turn}",
                      (told.get("message"), told.get("border_faults", 0) > side // 4), (message, reach > side // 4))
 
     def test_wider_border(self):
-        """A symbol whose border is more damaged than usual is read if each block leaves a correction unused, and only
-        then."""
+        """A symbol with a border more damaged than usual is read only if each block leaves a correction unused."""
         chance = random.Random(12)
         for side, count, limit in sizes()[1:6]:
             message = message_of(count)
             grid, kept = grid_of(message), {}
             while limit not in kept:
-                done = run([self.sampler, "--json", "--time=30000"], pgm(pixels_of(grid)))
-                corrected = json.loads(done.stdout)["corrected"][0] if done.returncode == 0 else None
+                corrected = self.first(pixels_of(grid)).get("corrected")
                 if corrected is None:  # one flip has made two codewords wrong, or too many
                     grid = grid_of(message)
                 else:
-                    kept[corrected] = [row[:] for row in grid]
+                    kept[corrected[0]] = [row[:] for row in grid]
                 row, column = chance.randrange(1, side - 1), chance.randrange(1, side - 1)
                 grid[row][column] ^= 1
             for wrong in sorted(kept):
                 spoilt = [row[:] for row in kept[wrong]]
                 for k in range(side // 4 + 1):
                     spoilt[2 + k][0] ^= 1
-                done = run([self.sampler, "--json", "--time=30000"], pgm(pixels_of(spoilt)))
-                told = json.loads(done.stdout)["message"] if done.returncode == 0 else None
-                self.row(f"side {side}, {wrong} of {limit} corrections and a border beyond the limit", told,
-                         message if wrong < limit else None)
+                self.says(f"side {side}, {wrong} of {limit} corrections and a border beyond the limit",
+                          pixels_of(spoilt), message if wrong < limit else None, "--time=30000")
 
     def test_dots(self):
-        """Dots of three fifths of a module, which don't touch, turned a little, with some so faint that they are
-        lost."""
+        """Dots of three fifths of a module, which don't touch, turned a little, some so faint that they are lost."""
         self.of_dots(sizes()[:9], (6,), 0.3, 200)
 
     def test_small_dots(self):
@@ -97,9 +97,7 @@ class Hard:
             wide, turn = int((side + 8) * scale * 1.15), 0.1 * (side % 5)
 
             def level(x, y):
-                right, down = (x - wide / 2) / scale, (y - wide / 2) / scale
-                across = math.cos(turn) * right + math.sin(turn) * down + side / 2
-                along = math.cos(turn) * down - math.sin(turn) * right + side / 2
+                across, along = turned_by(turn, (x - wide / 2) / scale, (y - wide / 2) / scale, side)
                 row, column = math.floor(along), math.floor(across)
                 if not (0 <= row < side and 0 <= column < side and grid[row][column]):
                     return ground
@@ -123,9 +121,33 @@ class Hard:
                     return 230
                 column, row = (math.floor(math.asin(sine) * radius / scale + side / 2),
                                math.floor((along - wide / 2) / scale + side / 2))
-                inside = 0 <= row < side and 0 <= column < side
-                return 30 if inside and grid[row][column] else 230
+                return 30 if 0 <= row < side and 0 <= column < side and grid[row][column] else 230
             self.says(f"side {side} around a cylinder", drawn(wide, wide, level), message_of(count), "--time=30000")
+
+    def test_crumpled(self):
+        """On crumpled paper, and as a camera shows them that shakes while it takes row by row: modules lie beside their
+        places, in waves; the picture as it is and turned, dark on light and light on dark."""
+        for at, (side, count, _) in enumerate(sizes()[4:10:2]):
+            grid, message, scale = grid_of(message_of(count)), message_of(count), 6
+            wide = (side + 8) * scale
+            for name, right, down in (("crumpled", 0.4, 0.3), ("row by row", 0.45, 0)):
+                def level(x, y):
+                    column = math.floor(x / scale - 4 + right * math.sin(2 * math.pi * (y / scale / 16 + at / 5)))
+                    row = math.floor(y / scale - 4 + down * math.sin(2 * math.pi * (x / scale / 17 + at / 7)))
+                    return 30 if 0 <= row < side and 0 <= column < side and grid[row][column] else 220
+                rows = drawn(wide, wide, level)
+                for turns in range(4):
+                    self.says(f"side {side}, {name}, {turns} turns", rows, message)
+                    self.lies_upright(f"side {side}, {name}, {turns} turns", rows, turns, 4 * scale)
+                    rows = [[250 - level for level in row] for row in turned(rows)]
+
+    def lies_upright(self, name, rows, turns, quiet):
+        """That the corners of a symbol lie about where they do in a picture that was turned so often."""
+        told = json.loads(run([self.sampler, "--json"], pgm(rows)).stdout or b"{}").get("corners", [])
+        far = len(rows) - quiet
+        wanted = [(quiet, quiet), (far, quiet), (far, far), (quiet, far)]
+        self.row(f"{name}: corners", [max(abs(a - b) for a, b in zip(got, wanted[(k + turns) % 4])) < quiet / 2
+                                      for k, got in enumerate(told)], [True] * 4)
 
     def test_bands(self):
         """In the light of a lamp that flickers while the rows are read one by one."""
@@ -144,8 +166,7 @@ class Hard:
                 for step in range(reach + 1)]
         for side, count, _ in (sizes()[at] for at in (3, 4, 6, 7, 8)):
             message = message_of(count)
-            self.says(f"side {side} by a camera that moves", moved_along(pixels_of(grid_of(message), scale, 4), path),
-                      message)
+            self.says(f"side {side} moved", moved_along(pixels_of(grid_of(message), scale, 4), path), message)
 
     def test_craters(self):
         """Craters in streaked metal that is lit from one side, so that one half of each is dark."""
@@ -157,9 +178,7 @@ class Hard:
             streaks = [sum(noise[y:y + 4]) / 2 for y in range(wide)]
 
             def level(x, y):
-                right, down = (x - wide / 2) / scale, (y - wide / 2) / scale
-                across = math.cos(turn) * right + math.sin(turn) * down + side / 2
-                along = math.cos(turn) * down - math.sin(turn) * right + side / 2
+                across, along = turned_by(turn, (x - wide / 2) / scale, (y - wide / 2) / scale, side)
                 row, column, shade = math.floor(along), math.floor(across), 0
                 if 0 <= row < side and 0 <= column < side and grid[row][column]:
                     beside, below = across - column - 0.5, along - row - 0.5

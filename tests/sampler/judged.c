@@ -29,8 +29,7 @@ static int check(const char *what, int is_same) {
 
 /* ---- Margins */
 
-/* Whether a reading of 52 by 52 that leaves so many checks of its two blocks, with so many faults of the border, is
- * trusted with a margin as it should be. */
+/* Whether a reading of 52 by 52 with these checks and faults of the border is trusted with a margin as it should. */
 static int check_margin(int first, int second, int faults, int margin, int is_trusted, int is_trusted_with_doubt) {
     static ecc200_sample trial;
     trial = (ecc200_sample){.rows = 52, .columns = 52};

@@ -1,5 +1,4 @@
-/* Gives a program that asks for the clock a second more each time, as a machine does that is busy with other work; for
- * tests/sampler, by LD_PRELOAD. */
+/* Gives a program that asks for the clock a second more each time, as a busy machine does; for LD_PRELOAD. */
 #include <time.h>
 
 int clock_gettime(clockid_t clock, struct timespec *out) {

@@ -1,5 +1,4 @@
-/* Makes one allocation of a program fail, the one whose number FAIL_AT gives; for tests/sampler, by LD_PRELOAD. Needs
- * glibc. */
+/* Makes one allocation of a program fail, the one whose number FAIL_AT gives; for LD_PRELOAD. Needs glibc. */
 #include <errno.h>
 #include <stdlib.h>
 

@@ -1,13 +1,15 @@
-/* Small pictures with nothing to be read, made by number and searched: `nothing FIRST COUNT [EFFORT]` prints whatever
- * is read in them, and returns 1 then. Every other one shows a symbol that is damaged until the reader refuses it,
- * whatever its border; a reading of what it said doesn't count. */
+/* Small pictures with nothing to be read, made by number and searched: `nothing FIRST COUNT [EFFORT [any]]` prints
+ * whatever is read in them or taken for another code, and how many pictures there were, and returns 1 if it printed any
+ * such. Every other one shows a symbol, of any size, that is damaged until the reader refuses it, whatever its border;
+ * a reading of what it said doesn't count. One in sixteen, or with a fourth word all, have any form, and may be no
+ * pictures. */
 #include <ecc200_sample.h>
 #include <math.h>
 #include <stdio.h>
 #include <stdlib.h>
 #include <string.h>
 
-enum { MOST_MODULES_SHOWN = 64, MOST_PIXELS = 400 * 400, SMALLEST = 14 };
+enum { MOST_MODULES_SHOWN = 144, MOST_PIXELS = 400 * 400, SMALLEST = 14 };
 enum kind { CHANCE, CHECKS, BARS, RINGS, STROKES, WAVES, BORDER, KINDS };
 
 static uint64_t state;
@@ -45,22 +47,18 @@ static int ring_at(const struct drawing *drawing, int row, int column) {
 static int module_of(const struct drawing *drawing, int row, int column, int chance) {
     int last_row = drawing->rows - 1, last_column = drawing->columns - 1, ring;
     switch (drawing->kind) {
-    case CHECKS:
-        return (row + column) % 2;
-    case BARS:
-        return row == 0 ? chance : drawing->dark[column];
+    case CHECKS: return (row + column) % 2;
+    case BARS: return row == 0 ? chance : drawing->dark[column];
     case RINGS:
         ring = ring_at(drawing, row, column);
         return ring < 0 ? chance : ring;
-    case STROKES:
-        return row % 8 < 6 && column % 5 < 4 && (row % 8 % 5 == 0 || column % 5 % 3 == 0 ? chance : 0);
+    case STROKES: return row % 8 < 6 && column % 5 < 4 && (row % 8 % 5 == 0 || column % 5 % 3 == 0 ? chance : 0);
     case BORDER:
         return column == 0 || row == last_row ? 1
                : row == 0                     ? column % 2 == 0
                : column == last_column        ? row % 2
                                               : chance;
-    default:
-        return chance;
+    default: return chance;
     }
 }
 
@@ -79,12 +77,12 @@ static int is_read(const uint8_t *modules, int rows, int columns) {
     return ecc200_read(modules, (size_t)rows * (size_t)columns, NULL, 0, &scan, &reading) == ECC200_OK;
 }
 
-/* A symbol of one of the smallest sizes, damaged until it isn't read. False if it can't be written. */
+/* A symbol, in two of three pictures a small one, damaged until it isn't read. False if it can't be written. */
 static int draw_damaged(struct drawing *drawing, ecc200_reading *was) {
     static ecc200_symbol symbol;
     ecc200_size_table table;
     ecc200_sizes(&table);
-    const ecc200_size *size = &table.sizes[below(SMALLEST)];
+    const ecc200_size *size = &table.sizes[below(below(3) > 0 ? SMALLEST : ECC200_SIZE_COUNT)];
     uint8_t text[ECC200_MOST_MODULES];
     int count = 1 + below(size->data_codewords);
     ecc200_how how = {.rows = size->rows, .columns = size->columns, .shape = ECC200_ONE};
@@ -156,7 +154,8 @@ static void take(const struct drawing *drawing, const struct view *view, uint8_t
 
 /* A picture of any form that has nothing but noise: thin ones, and such as are no pictures. */
 static struct view thin(uint8_t *pixels) {
-    struct view view = {.width = 1 + below(below(20) == 0 ? 65535 : 90), .height = 1 + below(below(3) == 0 ? 2 : 90)};
+    int most = below(8) == 0 ? 90 : 30, is_wide = below(100) == 0, is_flat = below(3) == 0;
+    struct view view = {.width = 1 + below(is_wide ? 65535 : most), .height = 1 + below(is_flat ? 2 : most)};
     if ((int64_t)view.width * view.height > MOST_PIXELS)
         view.height = MOST_PIXELS / view.width;
     int levels = 1 + below(255);
@@ -165,7 +164,11 @@ static struct view thin(uint8_t *pixels) {
     return view;
 }
 
-static int search_one(uint64_t number, uint16_t effort) {
+/* How many pictures there were of each sort. */
+enum sort { DAMAGED, WITHOUT, OF_ANY_FORM, SORTS };
+static unsigned long counts[SORTS];
+
+static int search_one(uint64_t number, uint16_t effort, int is_of_any_form) {
     static uint8_t pixels[MOST_PIXELS];
     static ecc200_sample found[4], unread[2];
     static struct drawing drawing;
@@ -173,25 +176,33 @@ static int search_one(uint64_t number, uint16_t effort) {
     state = number * 0x9E3779B97F4A7C15u + 0x2545F4914F6CDD1Du, next(), next();
     was.item_count = 0, drawing.kind = CHANCE;
     struct view view;
-    if (number % 16 == 15) {
+    enum sort sort = is_of_any_form                                       ? OF_ANY_FORM
+                     : number % 2 == 1 || !draw_damaged(&drawing, &was) ? WITHOUT
+                                                                          : DAMAGED;
+    if (sort == OF_ANY_FORM) {
         view = thin(pixels);
     } else {
-        if (number % 2 == 1 || !draw_damaged(&drawing, &was))
+        if (sort == WITHOUT)
             draw_chance(&drawing);
         view = look(&drawing);
         take(&drawing, &view, pixels);
     }
+    counts[sort]++;
     ecc200_sample_search search = ecc200_sample_usual_search();
     search.symbols = found, search.room = 1 + number % 4, search.unread = unread, search.unread_room = number % 3;
     search.effort = effort;
     uint16_t code = ecc200_sample_find(pixels, (size_t)view.width, (size_t)view.height, (size_t)view.width, &search);
-    int wrong = code != (view.width > ECC200_SAMPLE_MOST_SIDE ? ECC200_SAMPLE_PICTURE : ECC200_SAMPLE_OK);
+    ecc200_sample_point corners[4];
+    const char *other =
+        ecc200_sample_other_code(pixels, (size_t)view.width, (size_t)view.height, (size_t)view.width, corners);
+    int is_wide = view.width > ECC200_SAMPLE_MOST_SIDE,
+        wrong = other != NULL || code != (is_wide ? ECC200_SAMPLE_PICTURE : ECC200_SAMPLE_OK);
     for (size_t k = 0; k < search.count; k++)
         wrong |= found[k].reading.item_count != was.item_count ||
                  memcmp(found[k].reading.items, was.items, was.item_count * sizeof *was.items) != 0;
     if (wrong)
-        printf("picture %llu, %d by %d: code %d, %zu read\n", (unsigned long long)number, view.width, view.height, code,
-               search.count);
+        printf("picture %llu, %d by %d: code %d, %zu read, %s\n", (unsigned long long)number, view.width, view.height,
+               code, search.count, other != NULL ? other : "no other code");
     fflush(stdout);
     return wrong;
 }
@@ -203,6 +214,8 @@ int main(int count, char **words) {
     uint16_t effort = (uint16_t)(count > 3 ? atoi(words[3]) : 0);
     int is_wrong = 0;
     for (uint64_t k = first; k < first + pictures; k++)
-        is_wrong |= search_one(k, effort);
+        is_wrong |= search_one(k, effort, count > 4 || k % 16 == 15);
+    printf("%lu beyond repair, %lu without a symbol, %lu of any form\n", counts[DAMAGED], counts[WITHOUT],
+           counts[OF_ANY_FORM]);
     return is_wrong;
 }

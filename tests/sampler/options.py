@@ -7,6 +7,7 @@ import shutil
 import subprocess
 
 from tests.sampler.pictures import CAREFUL, grid_of, pgm, pixels_of, record, run
+from tests.sampler.sizes import symbols
 from tests.support import places
 
 
@@ -23,8 +24,7 @@ def beyond_repair(message):
 
 
 def spoilt_jpegs(folder):
-    """A JPEG that goes over the picture two hundred times, and one that claims to be higher than any picture that is
-    read."""
+    """A JPEG that goes over the picture two hundred times, and one that claims to be higher than any that is read."""
     path = os.path.join(folder, "progressive.jpg")
     if not os.path.isfile(path):
         return []
@@ -60,10 +60,8 @@ class Options:
         self.row("corners in --json", [[round(c) for c in corner] for corner in told["corners"]],
                  [[12, 12], [52, 12], [52, 52], [12, 52]])
         text = "\\F01\\x80\"\\\\"
-        self.row("--json spells messages as dm_tool does",
-                 json.loads(run([self.sampler, "--json"], pgm(pixels_of(grid_of(text)))).stdout)["message"], text)
-        self.row("--min-modules",
-                 [run([self.sampler, f"--min-modules={least}", path]).returncode for least in (10, 11)], [0, 1])
+        self.says("--json spells messages as dm_tool does", pixels_of(grid_of(text)), text)
+        self.row("least", [run([self.sampler, f"--min-modules={it}", path]).returncode for it in (10, 11)], [0, 1])
         spoilt = [row[:] for row in grid]
         spoilt[4][4] ^= 1
         damaged = pgm(pixels_of(spoilt))
@@ -72,18 +70,15 @@ class Options:
         for y, x in ((2, 2), (4, 6), (6, 3), (7, 7), (3, 5), (5, 1)):
             spoilt[y][x] ^= 1
         lost = pgm(pixels_of(spoilt))
-        self.row("a symbol beyond the limit", (run([self.sampler], lost).returncode, run([self.sampler], lost).stdout),
-                 (1, b""))
+        self.row("beyond the limit", (run([self.sampler], lost).returncode, run([self.sampler], lost).stdout), (1, b""))
         self.row("--unread", run([self.sampler, "--unread"], lost).stdout.decode(), record(spoilt))
-        self.row("--unread --json",
-                 "block" in json.loads(run([self.sampler, "--unread", "--json"], lost).stdout)["refused"], True)
+        self.row("json", "block" in json.loads(run([self.sampler, "--unread", "--json"], lost).stdout)["refused"], True)
 
     def test_unread(self):
         """What is found and not read is listed, once each, with the reason, also beside what is read."""
         good, lost = grid_of("GOOD 1"), beyond_repair("LOST 1")
         rows = beside([pixels_of(grid) for grid in (lost, good, lost)])
-        said = [json.loads(line) for line in run([self.sampler, "--all", "--json", "--unread", "--time=30000"],
-                                                 pgm(rows)).stdout.splitlines()]
+        said = self.told(rows, "--all", "--unread", "--time=30000")
         self.row("what is read, and what isn't", sorted((one.get("message", ""), "block" in one.get("refused", ""))
                                                         for one in said), [("", True), ("", True), ("GOOD 1", False)])
         wide = len(rows[0]) // 3
@@ -92,8 +87,7 @@ class Options:
                  [["".join(map(str, row)) for row in lost]] * 2)
         done = run([self.sampler, "--all", "--unread", "--time=30000"], pgm(rows))
         self.row("as records, what is read", done.stdout.decode(), record(good))
-        said = json.loads(run([self.sampler, "--json", "--unread", "--margin=9", "--time=30000"],
-                              pgm(pixels_of(good))).stdout)
+        said = self.first(pixels_of(good), "--unread", "--margin=9")
         self.row("what leaves too little", (said["refused"], "message" in said), ("too few corrections unused", False))
 
     def test_early(self):
@@ -124,8 +118,7 @@ class Options:
             self.leave_out("a symbol in EDIFACT (dmtxwrite isn't installed)")
             return
         run(["dmtxwrite", "-e", "e", "-o", path], b"AB.CD/12 34")
-        self.row("a symbol in EDIFACT", json.loads(run([self.sampler, "--json", path]).stdout or b"{}").get("message"),
-                 "AB.CD/12 34")
+        self.says("a symbol in EDIFACT", b"", "AB.CD/12 34", path)
 
     def test_usage(self):
         for words in (["--what"], ["--time"], ["--time=x"], ["--time=-1"], ["--time="], ["--margin=1x"],
@@ -183,7 +176,7 @@ class Options:
     def test_names(self):
         """No name of a file controls a terminal, ends a line, or turns letters around, on either stream."""
         picture = {"read": pgm(pixels_of(grid_of("123456"))), "refused": b"P5 ", "empty": pgm([[230] * 40] * 40),
-                   "held back": pgm(pixels_of(next(grid for rows, columns, _, grid in self.symbols()
+                   "held back": pgm(pixels_of(next(grid for rows, columns, _, grid in symbols()
                                                    if rows < columns)))}
         for name, shown, told in ((b"a\x1b[1mb", "a\\x1B[1mb", "a\x1b[1mb"), (b"a\nb\tc", "a\\x0Ab\\x09c", "a\nb\tc"),
                                   (b"\xc2\x9b1m\x7f", "\\xC2\\x9B1m\\x7F", "\x9b1m\x7f"),
@@ -202,8 +195,7 @@ class Options:
                 self.row(f"{kind} {name}", done.stderr.decode(errors="replace"), said.format(shown) + "\n")
             places.wrote(picture["read"], self.room, os.fsdecode(name))
             line = run([self.sampler, "--json", name], cwd=self.room).stdout.decode(errors="replace")
-            self.row(f"--json {name}", (json.loads(line)["file"], line[:-1].isprintable(), line.count("\n")),
-                     (told, True, 1))
+            self.row(f"{name}", (json.loads(line)["file"], line[:-1].isprintable(), line.count("\n")), (told, True, 1))
             os.remove(os.path.join(os.fsencode(self.room), name))
 
     def test_memory(self):

@@ -8,8 +8,7 @@
 #include <stdio.h>
 #include <stdlib.h>
 
-/* The place of a number among those that are tried: left of the picture, in it, or to its right. What isn't a number
- * counts as left. */
+/* The place of a number among those that are tried: left of the picture, as what is none, in it, or to its right. */
 static const struct {
     double at;
     int side;
@@ -17,8 +16,7 @@ static const struct {
              {1.5, 1},       {3, 2},      {3e9, 2},  {1e300, 2}, {INFINITY, 2}};
 enum { COUNT = sizeof TRIED / sizeof *TRIED };
 
-/* Whether a plane of three by three pixels shows at a point what it should; `is_inside`: whether the point lies in the
- * one in the middle. */
+/* Whether a plane of three by three pixels shows at a point what it should, in the middle one or not. */
 static int is_right(const struct plane *plane, struct point at, int pixel, int is_inside) {
     return shows(plane, at) == is_inside && dark_at(plane, at) == (is_inside ? pixel : 0) &&
            grey_at(plane, at) == pixel && fabs(brightness(plane, at) - pixel) < 1e-9;
@@ -28,8 +26,7 @@ static int64_t work_for(int64_t megapixels, uint16_t effort) {
     return limit_from_now(ECC200_SAMPLE_ANY_TIME, effort, megapixels * 1000000).allowed;
 }
 
-/* A large picture, which takes long to open, is allowed less than a small one, as long as that is enough to look at all
- * of it. */
+/* A large picture, which takes long to open, is allowed less than a small one, but enough to look at all of it. */
 static int is_work_right(void) {
     return work_for(12, 0) < work_for(1, 0) - 50000000 && work_for(12, 0) + 12 * 8000000 < 400000000 &&
            work_for(50, 0) >= 50 * 8000000 && work_for(12, 200) == 2 * work_for(12, 100) &&

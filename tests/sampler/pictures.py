@@ -15,8 +15,7 @@ def run(words, given=b"", **more):
 
 @functools.cache
 def sizes():
-    """Of each square to side 104: its side, its data codewords, and how many wrong codewords can be corrected in each
-    block."""
+    """Of each square to side 104: its side, its data codewords, and how many wrong ones each block corrects."""
     return [(size.rows, size.data_codewords, size.limit) for size in package.imported().sizes()
             if size.rows == size.columns <= 104]
 
@@ -26,11 +25,16 @@ def message_of(count):
     return "".join(chr(65 + k * k % 26) for k in range(count))
 
 
+@functools.cache
+def spelling():
+    """Gives what spells messages in the package."""
+    package.imported()
+    return importlib.import_module("ecc200.spelling")
+
+
 def grid_of(message):
     """The normal grid of a message, spelled as dm_tool spells it."""
-    ecc200 = package.imported()
-    spelling = importlib.import_module("ecc200.spelling")
-    return [list(row) for row in ecc200.write(spelling.of_spelling(message, "iso-8859-1").items)]
+    return [list(row) for row in package.imported().write(spelling().of_spelling(message, "iso-8859-1").items)]
 
 
 def record(grid):

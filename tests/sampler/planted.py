@@ -4,7 +4,7 @@ import shutil
 import unittest
 from contextlib import nullcontext as ready
 
-from tests.bugs import bugs_of
+from tests.bugs import bugs_of, sources_in
 from tests.sampler.test_sampler import Sampler
 from tests.support import commands, places
 
@@ -13,11 +13,9 @@ AT_ONCE = 1
 
 
 class Spoilt(Sampler):
-    """The cases over a sampler that is built with a bug."""
-
     @classmethod
     def setUpClass(cls):
-        cls.lacking, cls.room = None, cls.folder_of_class()
+        cls.lacking, cls.room, cls.builds, cls.sanitised = None, cls.folder_of_class(), [], None
 
 
 def bugs():
@@ -25,9 +23,7 @@ def bugs():
 
 
 def sources(bug):
-    """The text of a bug's file, by its name."""
-    file = bug.where.split()[0]
-    return {file: places.text_of("sampler", file)}
+    return sources_in(bug, "sampler")
 
 
 def found_by(bug, folder):
@@ -39,7 +35,7 @@ def found_by(bug, folder):
         os.symlink(places.path(name), os.path.join(folder, name))
     places.wrote(bug.planted(sources(bug))[file], sampler, file)
     Spoilt.sources, Spoilt.plain = sampler, os.path.join(sampler, "out")
-    Spoilt.sampler = Spoilt.careful = os.path.join(Spoilt.plain, "dm_sample")
+    Spoilt.sampler = os.path.join(Spoilt.plain, "dm_sample")
     env = commands.environment(ECC200_FOLDER=places.BUILT)
     done = commands.run([os.path.join(sampler, "build"), Spoilt.plain], env=env, timeout=600)
     assert done.status == 0, done.errors.decode()

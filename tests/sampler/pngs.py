@@ -1,18 +1,12 @@
-"""PNG files of every colour type and depth, interlaced or not, with and without a gamma, and what others decode of
-them; for test_sampler.py. Run as a program, by a Python that has Pillow, it makes them in a folder and prints a line of
-JSON for each: its file, and the luminance, row by row on white, that was put in it, and that Pillow and netpbm's
-pngtopam see, or null where one of them passes over a colour that is clear.
-
-    tests/sampler/pngs.py FOLDER
-"""
-import json
+"""PNG files of every colour type and depth, interlaced or not, with or without a gamma, and by others."""
 import os
 import random
 import shutil
 import struct
 import subprocess
-import sys
 import zlib
+
+from tests.support import places
 
 WIDTH, HEIGHT = 13, 11
 GREY, COLOUR, PALETTE, GREY_AND_OPACITY, COLOUR_AND_OPACITY = 0, 2, 3, 4, 6
@@ -56,8 +50,7 @@ def luminance(samples, most):
 
 
 def made(kind, depth, is_interlaced, gamma, is_clear, chance):
-    """A picture of chance, and its luminance; `is_clear` makes one colour of it clear, or gives a palette's colours
-    some opacity."""
+    """A picture of chance, and its luminance; `is_clear` makes one colour clear, or a palette in part."""
     most = 2 ** depth - 1
     pixels = [[[chance.randint(0, most) for _ in range(SAMPLES[kind])] for _ in range(WIDTH)] for _ in range(HEIGHT)]
     extra = chunk(*GAMMAS[gamma]) if gamma else b""
@@ -74,7 +67,6 @@ def made(kind, depth, is_interlaced, gamma, is_clear, chance):
 
 
 def forms():
-    """Every form, with its name."""
     for kind, depths in DEPTHS.items():
         for depth in depths:
             for is_interlaced in (0, 1):
@@ -104,18 +96,14 @@ def by_netpbm(path):
     return [luminance(samples[k:k + depth], most) for k in range(0, len(samples), depth)]
 
 
-def main():
+def luminances(folder):
+    """Makes a file of each form, and gives its path with the luminance, row by row on white, that was put in it, and
+    that Pillow and netpbm see, or None where one of them passes over a colour that is clear."""
     for name, form in forms():
         kind, depth, *_, is_clear = form
-        path = os.path.join(sys.argv[1], f"form-{name}.png")
+        path = os.path.join(folder, f"form-{name}.png")
         text, seen = made(*form, random.Random(name))
-        with open(path, "wb") as file:
-            file.write(text)
-        by = {"Pillow": None if is_clear
-              and (kind, depth) not in ((PALETTE, depth), (GREY, 8), (COLOUR, 8)) else by_pillow(path),
-              "netpbm": None if is_clear and kind == COLOUR else by_netpbm(path)}
-        print(json.dumps({"file": path, "luminance": {"what was put in": seen, **by}}))
-
-
-if __name__ == "__main__":
-    main()
+        places.wrote(text, path)
+        is_passed_over = is_clear and (kind, depth) not in ((PALETTE, depth), (GREY, 8), (COLOUR, 8))
+        yield path, {"what was put in": seen, "Pillow": None if is_passed_over else by_pillow(path),
+                     "netpbm": None if is_clear and kind == COLOUR else by_netpbm(path)}

@@ -1,5 +1,4 @@
-"""How good the print of a symbol is: drawn symbols of known contrast, blur, growth, form and damage, of each number its
-error and whether it rises and falls with what is drawn."""
+"""How good the print of a symbol is: drawn contrast, blur, growth, form and damage, with errors and directions."""
 import json
 import math
 import os
@@ -18,9 +17,8 @@ def rows_of(text, **more):
 
 
 def drawn(grid, dark=30, light=230, growth=(0, 0), place=None, scale=SCALE, fine=1, spots=()):
-    """The picture of a grid. Dark modules are wider and higher by the growth; `place` says which place among the
-    modules is seen at another; `spots` are places of the quiet zone that are dark; each pixel is the mean of
-    fine * fine."""
+    """The picture of a grid. Dark modules are wider and higher by the growth; `place` says which place is seen at
+    another; `spots` are places of the quiet zone that are dark; each pixel is the mean of fine * fine."""
     wide, high = len(grid[0]), len(grid)
     inked = {(x, y) for y, row in enumerate(grid) for x, module in enumerate(row) if module} | set(spots)
 
@@ -57,12 +55,6 @@ def whole(rows):
     return [[min(255, max(0, round(value))) for value in row] for row in rows]
 
 
-def measured(sampler, rows):
-    """What the sampler says of the first symbol of a picture."""
-    done = run([sampler, "--json", "--quality"], pgm(whole(rows)))
-    return json.loads(done.stdout.splitlines()[0])["quality"] if done.stdout else {}
-
-
 def by_pixels(rows, grid):
     """Of each codeword the modulation, by the pixels of its modules within a round aperture of 0.8 modules."""
     ecc200 = package.imported()
@@ -86,6 +78,10 @@ def by_pixels(rows, grid):
 
 
 class Quality:
+    def measured(self, rows):
+        """What the sampler says of the print of the first symbol of a picture."""
+        return next(iter(self.told(whole(rows), "--quality")), {}).get("quality", {})
+
     def near(self, name, got, wanted, error):
         self.row(f"{name}: {got} is {wanted} by {error}", abs(got - wanted) <= error, True)
 
@@ -97,13 +93,13 @@ class Quality:
         grid, came = rows_of(LOT), []
         for dark, light, grade in ((0, 255, "A"), (30, 230, "A"), (40, 200, "B"), (60, 190, "C"), (90, 150, "D"),
                                    (100, 140, "F")):
-            quality = measured(self.sampler, drawn(grid, dark, light))
+            quality = self.measured(drawn(grid, dark, light))
             self.near(f"contrast {dark} to {light}", quality["contrast"], (light - dark) / 255, 0.005)
             self.row(f"its grades, {dark} to {light}", [quality["grades"][name] for name in GRADES], [grade, *"AAAA"])
             self.near(f"modulation, {dark} to {light}", quality["modulation"], 1, 0.01)
             came.append(quality["contrast"])
         self.rises("contrast", came, -1)
-        inverted = measured(self.sampler, drawn(grid, 230, 30))
+        inverted = self.measured(drawn(grid, 230, 30))
         self.near("contrast of light on dark", inverted["contrast"], 200 / 255, 0.005)
         self.near("modulation of light on dark", inverted["modulation"], 1, 0.01)
 
@@ -111,7 +107,7 @@ class Quality:
         grid, came = rows_of(LOT), []
         for blur in (0.1, 0.2, 0.25, 0.3, 0.35):
             rows = blurred(drawn(grid), blur)
-            quality, wanted = measured(self.sampler, rows), by_pixels(rows, grid)
+            quality, wanted = self.measured(rows), by_pixels(rows, grid)
             worst = max(abs(one - other) for one, other in zip(quality["modulations"], wanted, strict=True))
             self.near(f"modulations, blur {blur}", worst, 0, 0.05)
             self.near(f"the least, blur {blur}", quality["modulation"], min(wanted), 0.05)
@@ -128,7 +124,7 @@ class Quality:
         grid, came = rows_of(LOT), []
         for across in (-0.4, -0.2, 0, 0.2, 0.4):
             for down in (across, across / 2) if across > -0.4 else (across,):
-                quality = measured(self.sampler, drawn(grid, growth=(across, down), fine=2))
+                quality = self.measured(drawn(grid, growth=(across, down), fine=2))
                 self.near(f"growth of {across} across, {down} down", quality["growth"][0], across, 0.03)
                 self.near(f"growth of {down} down, {across} across", quality["growth"][1], down, 0.03)
             self.near(f"axial nonuniformity, growth {across}", quality["axial"], 0, 0.01)
@@ -136,24 +132,24 @@ class Quality:
             came.append(quality["growth"][0])
         self.rises("growth", came)
         for across, blur, error in ((0.2, 0.2, 0.03), (-0.2, 0.2, 0.03), (0.2, 0.3, 0.06), (-0.2, 0.3, 0.06)):
-            quality = measured(self.sampler, blurred(drawn(grid, growth=(across, across)), blur))
+            quality = self.measured(blurred(drawn(grid, growth=(across, across)), blur))
             self.near(f"growth {across}, blur {blur}", quality["growth"][0], across, error)
         turned = [list(row) for row in zip(*drawn(grid, growth=(0.4, 0.2))[::-1])]
-        self.near("growth across, turned", measured(self.sampler, turned)["growth"][0], 0.4, 0.03)
-        lit = measured(self.sampler, drawn(grid, 230, 30, growth=(0.2, 0.4)))
+        self.near("growth across, turned", self.measured(turned)["growth"][0], 0.4, 0.03)
+        lit = self.measured(drawn(grid, 230, 30, growth=(0.2, 0.4)))
         self.near("growth of light modules down", lit["growth"][1], 0.4, 0.03)
 
     def test_quality_form(self):
         grid, came = rows_of(LOT), []
         side = len(grid)
         for wider, grade in ((1, "A"), (1.04, "A"), (1.07, "B"), (1.09, "C"), (1.11, "D"), (1.15, "F")):
-            quality = measured(self.sampler, drawn(grid, place=lambda x, y: (x, y * wider), fine=2))
+            quality = self.measured(drawn(grid, place=lambda x, y: (x, y * wider), fine=2))
             self.near(f"axial nonuniformity {wider}", quality["axial"], 2 * (wider - 1) / (wider + 1), 0.01)
             self.row(f"its grade, {wider}", quality["grades"]["axial"], grade)
             came.append(quality["axial"])
         self.rises("axial nonuniformity", came)
         for slant in (0.05, 0.1, 0.2):
-            quality = measured(self.sampler, drawn(grid, place=lambda x, y: (x + slant * (y - side / 2), y), fine=2))
+            quality = self.measured(drawn(grid, place=lambda x, y: (x + slant * (y - side / 2), y), fine=2))
             longer = math.hypot(1, slant)
             self.near(f"axial, skew {slant}", quality["axial"], 2 * (longer - 1) / (longer + 1), 0.01)
             self.near(f"grid, skew {slant}", quality["grid"], 0, 0.05)
@@ -162,14 +158,14 @@ class Quality:
         for most in (0, 0.1, 0.2, 0.3, 0.4):
             def bent(x, y):
                 return x - most * math.sin(math.pi * min(max(y / side, 0), 1)) ** 2, y
-            quality = measured(self.sampler, drawn(grid, place=bent, fine=2))
+            quality = self.measured(drawn(grid, place=bent, fine=2))
             self.near(f"grid nonuniformity {most}", quality["grid"], most, 0.03 + most / 8)
             came.append(quality["grid"])
         self.rises("grid nonuniformity", came)
         for most in (0.2, 0.4):
             def wound(x, y):
                 return x - most * math.sin(2 * math.pi * min(max(y / side, 0), 1)), y
-            quality = measured(self.sampler, drawn(grid, place=wound, fine=2))
+            quality = self.measured(drawn(grid, place=wound, fine=2))
             self.near(f"grid nonuniformity {most}, wound", quality["grid"], most, 0.03 + most / 8)
 
     def test_quality_damage(self):
@@ -178,12 +174,11 @@ class Quality:
         for count in range(4):
             torn = [[0 if x == 0 and 2 <= y < 2 + count else module for x, module in enumerate(row)]
                     for y, row in enumerate(grid)]
-            quality = measured(self.sampler, drawn(torn, scale=6))
+            quality = self.measured(drawn(torn, scale=6))
             self.row(f"the left border, {count}", quality["border"], [0, 0, 0, round(count / side, 4)])
-            self.row(f"its words, {count}", quality["weakest"].split(",")[0],
-                     "the left border" if count else "nothing is weak")
+            self.row(f"{count}", quality["weakest"].split(",")[0], "the left border" if count else "nothing is weak")
             border.append(quality["border"][3])
-            quality = measured(self.sampler, drawn(grid, scale=6, spots=[(x, -1) for x in range(4, 4 + count)]))
+            quality = self.measured(drawn(grid, scale=6, spots=[(x, -1) for x in range(4, 4 + count)]))
             self.row(f"the quiet zone above, {count}", quality["quiet"], [round(count / side, 4), 0, 0, 0])
             quiet.append(quality["quiet"][0])
         self.rises("damage of the border", border)
@@ -191,19 +186,18 @@ class Quality:
         self.row("the quiet zone in words", quality["weakest"], "the quiet zone above, columns 5 to 7")
         wrong = [row[:] for row in grid]
         wrong[0][4:7] = [1 - module for module in grid[0][4:7]]
-        quality = measured(self.sampler, drawn(wrong, scale=6))
+        quality = self.measured(drawn(wrong, scale=6))
         self.row("the top border", (quality["border"], quality["weakest"]),
                  ([round(3 / side, 4), 0, 0, 0], "the top border, columns 5 to 7"))
         wrong = [row[:] for row in grid]
         wrong[9][side - 1], wrong[side - 1][3] = 1 - grid[9][side - 1], 0
-        quality = measured(self.sampler, drawn(wrong, scale=6))
+        quality = self.measured(drawn(wrong, scale=6))
         self.row("two sides", (quality["border"], quality["weakest"]),
                  ([0, round(1 / side, 4), round(1 / side, 4), 0], "the right border, row 10"))
         cut = [row[QUIET * 6:] for row in drawn(grid, scale=6)]
-        self.row("a quiet zone that isn't in the picture", measured(self.sampler, cut)["quiet"], [0, 0, 0, 1])
+        self.row("a quiet zone that isn't in the picture", self.measured(cut)["quiet"], [0, 0, 0, 1])
 
     def test_quality_unused(self):
-        """Unused error correction by the block, of two blocks and of one."""
         ecc200 = package.imported()
         for grid, blocks in ((rows_of(LOT), 1), (rows_of(LOT, size=(52, 52)), 2)):
             size = next(it for it in ecc200.sizes() if (it.rows, it.columns) == (len(grid), len(grid[0])))
@@ -212,7 +206,7 @@ class Quality:
                 words = {blocks * k for k in range(count)}  # of the first block
                 damaged = [[module ^ (here.kind == ecc200.Kind.BIT and here.codeword in words and here.bit == 1)
                             for module, here in zip(row, line)] for row, line in zip(grid, places)]
-                quality = measured(self.sampler, drawn(damaged, scale=5))
+                quality = self.measured(drawn(damaged, scale=5))
                 wanted = [round(1 - 2 * count / checks, 4), *[1] * (blocks - 1)]
                 self.row(f"unused with {count} errors in {len(grid)} rows", quality["unused"], wanted)
                 grade = next(letter for letter, begin in zip("ABCDF", (0.62, 0.5, 0.37, 0.25, 0)) if wanted[0] >= begin)
@@ -223,20 +217,18 @@ class Quality:
             self.rises(f"unused error correction of {len(grid)} rows", came, -1)
 
     def test_quality_graded(self):
-        """The tables of grades, and the worked case of modulations."""
         self.part("graded", ["grades"])
 
     def test_quality_in_python(self):
         """What the module for Python and the command say is what dm_sample does."""
         rows = whole(blurred(drawn(rows_of(LOT), growth=(0.2, 0)), 0.2))
-        wanted = measured(self.sampler, rows)
+        wanted = self.measured(rows)
         ecc200 = package.imported()
         script = ("import json, sys, ecc200; from ecc200.quality import rounded; picture = memoryview(bytes(json.loads("
                   "sys.stdin.read())))\n"
                   f"found = ecc200.find(picture.cast('B', [{len(rows)}, {len(rows[0])}]), quality=True)\n"
                   "print(json.dumps(rounded(found[0].quality)))")
-        env = {**os.environ, **package.settings(),
-               "ECC200_SAMPLE_LIBRARY": os.path.join(self.plain, "libecc200_sample.so")}
+        env = {**os.environ, **package.settings(), "ECC200_SAMPLE_LIBRARY": f"{self.plain}/libecc200_sample.so"}
         done = run([PYTHON, "-c", script], json.dumps([value for row in rows for value in row]).encode(), env=env)
         self.row("by Python", json.loads(done.stdout or b"{}") or done.stderr[-300:], wanted)
         self.row("what has numbers", sorted(wanted), sorted(ecc200.Quality._fields))

@@ -1,9 +1,10 @@
-"""Pictures of every size and format, turned, mirrored and inverted, and a part of the set of photographs with the least
-that must be read."""
+"""Pictures of every size and format, turned, mirrored and inverted, and photographs of which some must be read."""
+import importlib.util
 import json
 import math
 import os
 
+from tests.sampler import pngs
 from tests.sampler.pictures import (CAREFUL, PYTHON, grid_of, message_of, pgm, pixels_of, record, run, sizes, turned)
 from tests.support import places
 from tests.support.places import PROGRAM
@@ -19,8 +20,7 @@ def corners_near(said, wanted, apart):
 
 
 def the_set(case, folder, words):
-    """Fifty pictures and two with several symbols: none is read wrong, and at least LEAST_SHARE of the symbols are
-    read. `words` call the sampler."""
+    """Fifty pictures and two with several symbols: none is read wrong, and LEAST_SHARE are read. `words` call it."""
     if not os.path.isfile(PROGRAM):
         case.leave_out("fifty photographs (the program that makes their symbols isn't built)")
         return
@@ -28,8 +28,7 @@ def the_set(case, folder, words):
     if run([PYTHON, places.path("bench", "photographs"), "--program", PROGRAM, "--share", "13", made]).returncode:
         case.leave_out("fifty photographs (python3-opencv and python3-numpy aren't installed)")
         return
-    with open(os.path.join(made, "index.json"), encoding="utf-8") as file:
-        index = json.load(file)
+    index = json.loads(places.text_of(made, "index.json"))
     symbols = right = 0
     for picture in index:
         more = ["--all"] if len(picture["messages"]) > 1 else []
@@ -39,8 +38,7 @@ def the_set(case, folder, words):
         symbols, right = symbols + len(picture["messages"]), right + len(messages)
     print(f"of {symbols} symbols in {len(index)} photographs {right} were read")
     case.row("the symbols that are read", right >= LEAST_SHARE * symbols and len(index) >= 50, True)
-    through = run(["sh", "-c", f'"$@" | "{PROGRAM}" read', "sh", *words,
-                   os.path.join(made, index[0]["file"])]).stdout.decode()
+    through = run(["sh", "-c", f'"$@" | "{PROGRAM}" read', "sh", *words, f'{made}/{index[0]["file"]}']).stdout.decode()
     case.row("dm_sample | dm_tool read", through.rstrip("\n"), index[0]["messages"][0])
 
 
@@ -58,8 +56,7 @@ class Reading:
                 self.reads(f"side {side}, {way}", picture, grid, "--time=30000", "-")
 
     def test_without_quiet_zone(self):
-        """A symbol that fills its picture, on all sides or on some, is found, with its corners where it stands: each
-        size, some at each scale."""
+        """A symbol that fills its picture, on some sides, is found where it stands: each size, some at each scale."""
         for at, (side, count, _) in enumerate(sizes()):
             grid = grid_of(message_of(count))
             for scale in range(2, 10) if side < 20 else (3 + at % 4,):
@@ -90,8 +87,7 @@ class Reading:
             self.reads(f"{count} codewords in a shadow of {left}, slope {slope}", rows, grid, "--time=30000")
 
     def test_glare(self):
-        """A symbol on a dim ground with a bright spot on it, in which dark modules are lighter than light ones
-        elsewhere."""
+        """A symbol on a dim ground with a bright spot, in which dark modules are lighter than light ones elsewhere."""
         for count in (18, 44):
             grid = grid_of(message_of(count))
             rows = pixels_of(grid, 5, 4, 30, 130)
@@ -103,7 +99,6 @@ class Reading:
                 self.reads(f"{count} codewords with glare at {across}, {down}", lit, grid, "--time=30000")
 
     def test_formats(self):
-        """The same picture in every format that is read."""
         grid = grid_of("FORMATS")
         rows = pixels_of(grid)
         wide, high = len(rows[0]), len(rows)
@@ -123,55 +118,43 @@ class Reading:
         for name, text in made.items():
             self.reads(name, text, grid)
         places.wrote(pgm(rows), self.room, "formats.pgm")
-        for file in self.coloured_formats(self.room):
-            self.reads(os.path.basename(file), b"", grid, file)
+        if self.has_pillow("PNG and JPEG in all their forms"):
+            for file in self.coloured_formats():
+                self.reads(file, b"", grid, os.path.join(self.room, file))
 
-    def coloured_formats(self, folder):
-        """The picture as PNG and JPEG in several forms, by Pillow."""
-        script = """
-import sys
-from PIL import Image
-folder = sys.argv[1]
-grey = Image.open(folder + "/formats.pgm").convert("L")
-clear = grey.convert("RGBA")
-clear.putalpha(grey.point(lambda level: 255 if level < 128 else 0))
-for name, image, more in (
-        ("grey.png", grey, {}), ("colour.png", grey.convert("RGB"), {}),
-        ("palette.png", grey.convert("RGB").quantize(7), {}),
-        ("clear.png", clear, {}),
-        ("bits.png", grey.convert("1"), {}),
-        ("deep.png", grey.convert("I").point(lambda level: level * 257).convert("I;16"), {}),
-        ("grey.jpg", grey, {}), ("colour.jpg", grey.convert("RGB"), {"quality": 90}),
-        ("progressive.jpg", grey.convert("RGB"), {"progressive": True}),
-        ("inks.jpg", grey.convert("RGB").convert("CMYK"), {})):
-    image.save(folder + "/" + name, **more)
-    print(folder + "/" + name)
-"""
-        done = run([PYTHON, "-c", script, folder])
-        if done.returncode:
-            self.leave_out("PNG and JPEG in all their forms (python3-pil isn't installed)")
-            return []
-        return done.stdout.decode().split()
+    def has_pillow(self, what):
+        return importlib.util.find_spec("PIL") is not None or self.leave_out(f"{what} (python3-pil isn't installed)")
+
+    def coloured_formats(self):
+        from PIL import Image
+        grey = Image.open(os.path.join(self.room, "formats.pgm")).convert("L")
+        colour, clear = grey.convert("RGB"), grey.convert("RGBA")
+        clear.putalpha(grey.point(lambda level: 255 if level < 128 else 0))
+        for name, image, more in (
+                ("grey.png", grey, {}), ("colour.png", colour, {}), ("palette.png", colour.quantize(7), {}),
+                ("clear.png", clear, {}), ("bits.png", grey.convert("1"), {}),
+                ("deep.png", grey.convert("I").point(lambda level: level * 257).convert("I;16"), {}),
+                ("grey.jpg", grey, {}), ("colour.jpg", colour, {"quality": 90}),
+                ("progressive.jpg", colour, {"progressive": True}), ("inks.jpg", colour.convert("CMYK"), {})):
+            image.save(os.path.join(self.room, name), **more)
+            yield name
 
     def test_every_png(self):
-        """PNG of every colour type, depth and gamma: the luminance is what was put in, and what Pillow and netpbm
-        see."""
+        """PNG of every colour type, depth and gamma: the luminance is what was put in, and what others see."""
         made = os.path.join(self.room, "luminance.out")
         sources = [places.path("sampler", "program", f"{name}.c") for name in ("picture", "png", "jpeg", "pnm")]
         self.compiles("luminance.c", made, *sources, "-lpng", "-ljpeg", compiler=("cc", "-std=c17", *CAREFUL))
-        forms = run([PYTHON, places.path("tests", "sampler", "pngs.py"), self.room])
-        if forms.returncode:
-            self.leave_out("PNG of every form (python3-pil isn't installed)")
+        if not self.has_pillow("PNG of every form"):
             return
-        for form in map(json.loads, forms.stdout.splitlines()):
-            done = run([made, form["file"]])
-            for by, wanted in form["luminance"].items():
+        for path, luminances in pngs.luminances(self.room):
+            done = run([made, path])
+            for by, wanted in luminances.items():
                 if wanted is None:
                     continue
                 got = done.stdout[-len(wanted):]
                 most = 2.5 if by == "Pillow" else 1.5  # Pillow drops the lower eight of sixteen bits
                 is_near = len(got) == len(wanted) and all(abs(one - other) <= most for one, other in zip(got, wanted))
-                self.row(f"{os.path.basename(form['file'])}: {by}", (done.returncode, is_near, done.stderr[:600]),
+                self.row(f"{os.path.basename(path)}: {by}", (done.returncode, is_near, done.stderr[:600]),
                          (0, True, b""))
 
     def test_the_set(self):

@@ -39,8 +39,7 @@ def told(sampler, rows, *words):
 
 class Sheets:
     def test_sheets(self):
-        """Sheets are read whole, in reading order, however near their symbols are; and the time a symbol doesn't grow
-        with their number."""
+        """Sheets are read whole, in order, however dense; and the time a symbol doesn't grow with their number."""
         chance = random.Random(21)
         for count, across, pixels in ((100, 10, 4), (400, 20, 3)):
             messages, grids = labels(count, chance)
@@ -49,6 +48,25 @@ class Sheets:
                 got, took, ended = told(self.sampler, sheet_of(grids, across, gap, pixels))
                 self.row(name, (got, ended), (messages, (0, b"")))
                 self.row(f"{name}: the work", took.pieces < MOST_WORK * count or str(took), True)
+
+    def test_large_sheets(self):
+        """The search of twelve megapixels with symbols and text is over in its usual work, and then it says so."""
+        chance = random.Random(65)
+        messages, grids = labels(6, chance)
+        rows = [bytearray(b"\xe6" * 4000) for _ in range(3000)]
+        for at, grid in enumerate(grids):
+            top, left = 200 + at // 3 * 1400, 150 + at % 3 * 1300
+            for y, line in enumerate(pixels_of(grid, 5 + at)):
+                rows[top + y][left:left + len(line)] = line
+            for y in range(12):
+                words = bytes(chance.choice((20, 230)) if x % 8 < 6 else 230 for x in range(160))
+                rows[top + 400 + y][left:left + 480] = bytes(level for level in words for _ in range(3))
+        with work.measured() as took:
+            done = run([self.sampler, "--all", "--json"], pgm(rows))
+        told = [json.loads(line) for line in done.stdout.splitlines()]
+        self.row("what is said", ([each["message"] for each in told], {each["complete"] for each in told},
+                                  done.returncode, done.stderr), (messages, {True}, 0, b""))
+        self.row("the work", took.pieces < 20 or str(took), True)
 
     def test_turned_sheets(self):
         """A sheet that lies turned is read in the order that it has when it is turned back."""
@@ -104,8 +122,7 @@ class Sheets:
                  (1024, 4, b"dm_sample: -: the search ended early, with 1024 symbols: there may be more\n"))
 
     def test_uneven_trays(self):
-        """Symbols in rows, each tilted by itself by up to 15 degrees, to one side, are read row by row, also where all
-        lie on their sides."""
+        """Symbols in rows, each tilted by up to 15 degrees, to one side, are read row by row, also on their sides."""
         chance = random.Random(41)
         for across, down, quarter in ((3, 2, 0), (3, 2, 1), (6, 4, 0), (6, 4, 1), (6, 4, 3)):
             messages, grids = labels(across * down, chance)
@@ -114,5 +131,4 @@ class Sheets:
             rows = [[level for picture in pictures[first:first + across] for level in picture[line]]
                     for first in range(0, across * down, across) for line in range(len(pictures[0]))]
             got, _, ended = told(self.sampler, rows)
-            self.row(f"{across} by {down}, turned by {90 * quarter} degrees and more", (got, ended),
-                     (messages, (0, b"")))
+            self.row(f"{across} by {down}, turned by {90 * quarter} degrees or so", (got, ended), (messages, (0, b"")))

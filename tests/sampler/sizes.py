@@ -1,31 +1,12 @@
 """Symbols of the sizes that dm_tool's records don't have: rectangles, and squares of sides 120, 132 and 144."""
+import functools
 import json
 import math
 import os
 import shutil
-import sys
 
 from tests.sampler.pictures import grid_of, message_of, pgm, pixels_of, record, run, turned
-from tests.support import places
-
-# What the library writes in each size of such a record's: its rows, columns and message, and its grid.
-WRITES = """
-import json, sys
-sys.path.append(sys.argv[1])
-import core
-for size in core.sizes():
-    if size.rows != size.columns or size.rows > 104:
-        message = "".join(chr(65 + k * k % 26) for k in range(size.data_codewords))
-        modules = core.write(message.encode(), size=(size.rows, size.columns))
-        print(json.dumps([size.rows, size.columns, message, [list(row) for row in modules]]))
-"""
-symbols_kept = []
-
-
-def told(sampler, rows):
-    """What is said of the first symbol of a picture."""
-    done = run([sampler, "--json", "--time=30000"], pgm(rows))
-    return json.loads(done.stdout.splitlines()[0]) if done.stdout else {}
+from tests.support import package
 
 
 def seen(said):
@@ -38,8 +19,7 @@ def wanted(rows, columns, message, grid):
 
 
 def tilted(rows, angle):
-    """A picture turned by any angle, on ground as light as its first pixel: each pixel is the mean of those that its
-    place lies between."""
+    """A picture turned by any angle, on ground as light as its first pixel, each pixel a mean of those around."""
     high, wide, light = len(rows), len(rows[0]), rows[0][0]
     reach, cosine, sine = int(math.hypot(high, wide)) + 4, math.cos(angle), math.sin(angle)
 
@@ -56,20 +36,22 @@ def tilted(rows, angle):
     return [[pixel(x + 0.5, y + 0.5) for x in range(reach)] for y in range(reach)]
 
 
+@functools.cache
+def symbols():
+    """Of each of these sizes: its rows, its columns, a message that fills it, and its grid."""
+    ecc200, made = package.imported(), []
+    for size in ecc200.sizes():
+        named, message = (size.rows, size.columns), message_of(size.data_codewords)
+        if size.rows != size.columns or size.rows > 104:
+            made.append((*named, message, [list(row) for row in ecc200.write(message.encode(), size=named)]))
+    return made
+
+
 class Sizes:
-    def symbols(self):
-        """Of each of these sizes: its rows, its columns, a message that fills it, and its grid."""
-        if not symbols_kept:
-            env = {**os.environ, "ECC200_LIBRARY": places.SHARED}
-            done = run([sys.executable, "-c", WRITES, os.path.dirname(places.MODULE)], env=env)
-            self.row("the library writes each size", done.stderr.decode(), "")
-            symbols_kept.extend(json.loads(line) for line in done.stdout.splitlines())
-        return symbols_kept
 
     def test_every_other_size(self):
-        """Each size upright, turned by each quarter, mirrored and inverted, at three pixels a module and more, and
-        without a quiet zone."""
-        for at, (rows, columns, message, grid) in enumerate(self.symbols()):
+        """Each size upright, by quarters, mirrored, inverted, at three pixels a module or more, without quiet zone."""
+        for at, (rows, columns, message, grid) in enumerate(symbols()):
             scale = 3 + at % 4
             plain = pixels_of(grid, scale)
             ways = {"at 3 pixels a module": pixels_of(grid, 3), "without a quiet zone": pixels_of(grid, scale, 0),
@@ -79,33 +61,30 @@ class Sizes:
                     "turned in a mirror, light on dark": turned([[255 - level for level in row[::-1]]
                                                                  for row in plain])}
             for way, picture in ways.items():
-                said = told(self.sampler, picture)
+                said = self.first(picture)
                 self.row(f"{rows} by {columns} at {scale}, {way}", seen(said), wanted(rows, columns, message, grid))
                 self.row(f"{rows} by {columns}, {way}: mirrored, inverted",
                          (said.get("mirrored"), said.get("inverted")), ("mirror" in way, "light" in way))
 
     def test_every_angle(self):
-        """Each size, turned by some angle."""
-        for at, (rows, columns, message, grid) in enumerate(self.symbols()):
+        for at, (rows, columns, message, grid) in enumerate(symbols()):
             angle = 0.23 + 0.61 * at
-            said = told(self.sampler, tilted(pixels_of(grid, 3 if rows > 100 else 4 + at % 3), angle))
+            said = self.first(tilted(pixels_of(grid, 3 if rows > 100 else 4 + at % 3), angle))
             self.row(f"{rows} by {columns} turned by {angle:.2f}",
                      [said.get(name) for name in ("rows", "columns", "message")], [rows, columns, message])
 
     def test_corners(self):
         """The corners of a rectangle, as it stands and as a mirror shows it, are those of the upright symbol."""
-        rows, columns, _, grid = self.symbols()[2]
+        rows, columns, _, grid = symbols()[2]
         plain, wide, high = pixels_of(grid), 4 * columns + 24, 4 * rows + 24
         left, right, top, below = 12, wide - 12, 12, high - 12
         for way, picture, places_of in (
                 ("as it is", plain, [(left, top), (right, top), (right, below), (left, below)]),
                 ("mirrored", [row[::-1] for row in plain], [(right, top), (left, top), (left, below), (right, below)])):
-            said = told(self.sampler, picture)
-            got = [tuple(round(place) for place in corner) for corner in said.get("corners", [])]
+            got = [tuple(round(place) for place in corner) for corner in self.first(picture).get("corners", [])]
             self.row(f"corners of {rows} by {columns}, {way}", got, places_of)
 
     def test_zint(self):
-        """What zint prints in each size."""
         if not shutil.which("zint"):
             self.leave_out("zint's own pictures (zint isn't installed)")
             return
@@ -118,19 +97,17 @@ class Sizes:
 
     def test_no_records(self):
         """What can't be handed on to dm_tool is named, and what can is."""
-        for rows, columns, _, grid in (self.symbols()[1], self.symbols()[-1]):
+        for rows, columns, _, grid in (symbols()[1], symbols()[-1]):
             done = run([self.sampler, "--time=30000"], pgm(pixels_of(grid)))
             why = "is no square" if rows != columns else "is larger than those of dm_tool"
             said = f"dm_sample: -: the symbol of {rows} by {columns} modules at 12.0,12.0 {why}: --json has it\n"
-            self.row(f"{rows} by {columns} is no record", (done.returncode, done.stdout, done.stderr.decode()),
-                     (1, b"", said))
-        rows, columns, _, grid = self.symbols()[0]
+            self.row(f"{rows} by {columns}", (done.returncode, done.stdout, done.stderr.decode()), (1, b"", said))
+        rows, columns, _, grid = symbols()[0]
         square = grid_of("SQUARE")
         beside, other = pixels_of(grid), pixels_of(square)
         wide = max(len(beside[0]), len(other[0]))
         both = [row + [230] * (wide - len(row)) for row in beside + other]
         done = run([self.sampler, "--all", "--corners", "--time=30000"], pgm(both))
         said = done.stderr.decode().splitlines()
-        self.row("a square below a rectangle", (done.returncode, done.stdout.decode(), len(said)),
-                 (1, record(square), 2))
+        self.row("square below rectangle", (done.returncode, done.stdout.decode(), len(said)), (1, record(square), 2))
         self.row("the rectangle is named", any(f"{rows} by {columns} modules" in line for line in said), True)

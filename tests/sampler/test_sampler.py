@@ -1,6 +1,5 @@
 """The sampler, built once as it is and once with the sanitisers: pictures of every size and format, known damage, its
-options, errors and statuses, hostile files, and the shared library from C and C++. Nothing is proved here but what the
-library ecc200 under it is."""
+options, errors and statuses, hostile files, and the shared library from C and C++."""
 from tests.sampler.again import Again
 from tests.sampler.common import SamplerCase
 from tests.sampler.contents import Contents
@@ -9,6 +8,7 @@ from tests.sampler.efforts import Efforts
 from tests.sampler.hard import Hard
 from tests.sampler.limits import Limits
 from tests.sampler.options import Options
+from tests.sampler.others import Others
 from tests.sampler.quality import Quality
 from tests.sampler.reading import Reading
 from tests.sampler.sheets import Sheets
@@ -18,10 +18,8 @@ from tests.support import needs
 
 
 @needs.library
-class Sampler(Again, Damage, Efforts, Hard, Contents, Limits, Options, Quality, Reading, Sheets, Sizes, Timing,
-              SamplerCase):
-    """The cases of all subjects, for which the sampler is built once."""
-
+class Sampler(Again, Damage, Efforts, Hard, Contents, Limits, Options, Others, Quality, Reading, Sheets, Sizes,
+              Timing, SamplerCase):
     def test_it_is_built_without_a_warning(self):
         self.assertTrue(self.careful)
         self.rows(self.builds)

@@ -1,5 +1,4 @@
-"""The sampler for other systems, each tried by its emulator: its library from C, and on ARM the program with the set of
-photographs."""
+"""The sampler for other systems, each by its emulator: its library from C, on ARM the program with photographs."""
 import os
 import unittest
 
@@ -43,8 +42,7 @@ class Targets(Rows):
         status, said = commands.said(words)
         self.assertEqual(status, 0, said)
         loaded = system.beside(folder, *folders)
-        self.row(f"called on {target.triple}", system.said([made, "x"], given=picture, env=loaded),
-                 (0, "14 14 FROM C 12.0"))
+        self.row(f"on {target.triple}", system.said([made, "x"], given=picture, env=loaded), (0, "14 14 FROM C 12.0"))
 
     def test_the_set_on_arm(self):
         target = targets.TARGETS[ARM]

@@ -52,8 +52,7 @@ class Timing:
         return self.by_clock(folder, "clock")
 
     def test_a_label(self):
-        """Twelve symbols beside frames and text are read within half of the usual second, dark on light or light on
-        dark."""
+        """Twelve symbols beside frames and text are read within half of the usual second, dark on light or not."""
         chance = random.Random(7)
         grids = [grid_of("".join(chance.choice("ABCDEFGHIJ") for _ in range(10))) for _ in range(12)]
         label = label_of(grids, chance)
@@ -66,8 +65,7 @@ class Timing:
     def test_early_with_a_symbol(self):
         """What was found when the time was over is printed, and it is said that there may be more."""
         chance, wide = random.Random(4), 3000
-        symbol = pixels_of(grid_of("123456"), 12)
-        rows = [bytes(row) + b"\xe6" * (wide - len(row)) for row in symbol]
+        rows = [bytes(row) + b"\xe6" * (wide - len(row)) for row in pixels_of(grid_of("123456"), 12)]
         picture = f"P5 {wide} {wide} 255\n".encode() + b"".join(rows) + chance.randbytes(wide * (wide - len(rows)))
         done = run([self.sampler, "--all", "--json", "--time=900"], picture, env=self.by_processor(self.room))
         told = [json.loads(line) for line in done.stdout.splitlines()]
@@ -78,8 +76,7 @@ class Timing:
 
     def test_busy(self):
         """A busy machine says what an idle one does, unless a time is given."""
-        grid = grid_of("LATE")
-        found, none = pgm(pixels_of(grid)), pgm([[k * j % 251 for k in range(300)] for j in range(300)])
+        found, none = pgm(pixels_of(grid_of("LATE"))), pgm([[k * j % 251 for k in range(300)] for j in range(300)])
         for name, picture in (("a symbol", found), ("none", none)):
             idle, busy = (run([self.sampler, "--all", "--json"], picture, env=env)
                           for env in (None, self.by_clock(self.room, "late")))
@@ -100,8 +97,7 @@ class Timing:
         self.row("six times what it takes alone", took.pieces < 20 or str(took), True)
 
     def test_large_photographs(self):
-        """A picture of twelve megapixels with a small symbol in it, and one without, take at most about the time of a
-        second, which is three times what they take."""
+        """Twelve megapixels, with a small symbol or without, take about a second at most, thrice what they need."""
         wide, high = 4000, 3000
         for message in ("SMALL", None):
             rows = cluttered(wide, high, random.Random(9), 40)
@@ -112,8 +108,7 @@ class Timing:
             self.row(f"twelve megapixels: the work, {message}", took.pieces < 10 or str(took), True)
 
     def test_shares(self):
-        """However much is tried by the first ways to search, enough is left of the usual work for those behind them: a
-        symbol that is light on dark, among much else."""
+        """The first ways to search leave enough of the usual work for those behind them, as for light on dark."""
         wide, high = 3000, 2000
         rows = cluttered(wide, high, random.Random(8), 525)
         draw(rows, pixels_of(grid_of("LIGHT"), 12, 2, 230, 20), 300, 500)
@@ -126,6 +121,5 @@ class Timing:
         for milliseconds in (0, 100):
             with work.measured() as took:
                 done = run([self.sampler, f"--time={milliseconds}", path], env=self.by_processor(self.room))
-            self.row(f"{milliseconds} milliseconds for 50 megapixels", (done.returncode, took.pieces < 6 or str(took)),
-                     (4, True))
+            self.row(f"{milliseconds} ms for 50 megapixels", (done.returncode, took.pieces < 6 or str(took)), (4, True))
         os.remove(path)

@@ -1,0 +1,34 @@
+/* A net of modules that grows over a surface which is bent anyhow: each knot, where four modules meet, lies where those
+ * around it and the edges beside it have it. */
+#ifndef NET_H
+#define NET_H
+
+#include "borders.h"
+#include "plane.h"
+#include "sampling.h"
+
+enum { NET_REACH = 112, NET_SIDE = 2 * NET_REACH + 1, MOST_KNOTS = NET_SIDE * NET_SIDE };
+
+struct net {
+    const struct plane *grey;
+    struct limit *limit;
+    double least;                    /* brightness: how clear an edge is at least */
+    struct point at[MOST_KNOTS];     /* pixels, row by row */
+    uint8_t is_weak[MOST_KNOTS];     /* 0 where no knot is; 1 for one that edges show, and one more for each step from
+                                        such a one */
+    int knots[MOST_KNOTS], count;    /* those that are there, as they came */
+};
+
+/* Grows a net from the modules around the origin of a map from modules to pixels, as far as edges show it, and a little
+ * farther, or until the limit. False if even the first modules don't fit. */
+bool grow_net(const struct plane *grey, const struct homography *to_picture, struct limit *limit, struct net *out);
+
+/* Takes at most MOST_FIELD modules each way of a net, around its middle: what is dark, and the first knot. */
+void take_field(const struct net *net, struct field *out, int *first_x, int *first_y);
+
+/* Samples the modules of a border in a picture of which so many pixels are one of the net's, upright; and its corners,
+ * clockwise from the upper left one, in those pixels. False if the net doesn't have all of it. */
+bool sample_net(const struct net *net, const struct plane *picture, double scale, int first_x, int first_y,
+                const struct border *border, struct brightnesses *out, struct point corners[4]);
+
+#endif
