@@ -1,6 +1,6 @@
 // Drawing codewords, and telling about the one that is pointed at.
 import { BIT, BORDER_DARK, BORDER_LIGHT, blockOf, there } from "./common.mjs";
-import { $, made } from "./dom.mjs";
+import { $, folded, made } from "./dom.mjs";
 import { mapOf, mark } from "./state.mjs";
 import { isWrong } from "./symbol.mjs";
 
@@ -28,8 +28,9 @@ function drawCell(node, seen, w) {
   node.replaceChildren(made(states[w] === 1 ? "s" : "span", { textContent: held[w] }));
   if (below !== null) node.append(made("small", { textContent: below }));
 }
+// Codewords are drawn where they can be seen.
 export function drawWords() {
-  const { seen, word } = mark(), box = $("words"), all = seen ? seen.held.length : 0;
+  const { seen, word } = mark(), box = $("words"), all = seen && folded("details").open ? seen.held.length : 0;
   if (box.childElementCount !== all) {
     box.textContent = "";
     for (let w = 0; w < all; w++) box.append(made("b", { id: `word-${w}`, role: "option" }));
@@ -40,10 +41,12 @@ export function drawWords() {
     drawCell(node, there(seen), w);
     if (node.getAttribute("aria-selected") !== isAt) node.setAttribute("aria-selected", isAt);
   }
-  if (word === null) box.removeAttribute("aria-activedescendant");
+  if (word === null || !all) box.removeAttribute("aria-activedescendant");
   else box.setAttribute("aria-activedescendant", `word-${word}`);
   $("count").textContent = seen ? `${seen.size.data} data, then ${seen.size.check} check (dashed). Point at one.` : "";
 }
+
+export function wireWords() { $("details").addEventListener("toggle", drawWords); }
 
 // ---- What is told of the module or codeword pointed at
 

@@ -5,7 +5,8 @@ import { messageOf, there } from "./common.mjs";
 
 /** @typedef {{ number: number, kind: string, given: any, lane: string, transfer: Transferable[], since: number,
     tell: ((progress: string) => void) | null, resolve: (answer: any) => void }} Question */
-/** @typedef {{ library: WebAssembly.Module, sampler: WebAssembly.Module }} Code of the workers */
+/** @typedef {{ library: WebAssembly.Module, sampler: WebAssembly.Module, isForPictures?: boolean }} Code of the
+    workers, and whether theirs are pictures */
 /** @type {Transferable[]} */
 const NONE = [];
 /** @type {Desk[]} */

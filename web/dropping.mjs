@@ -187,15 +187,14 @@ function dropped(event) {
 }
 /** @type {(id: string, take: (files: File[]) => any) => void} */
 const whenOpened = (id, take) => $(id).addEventListener("change", (event) => {
-  const files = [...fieldOf(event).files ?? []];
-  fieldOf(event).value = "";
-  if (files.length) take(files);
+  const area = fieldOf(event), files = [...area.files ?? []];
+  Promise.resolve(files.length ? take(files) : null).finally(() => { area.value = ""; }); // so that each can come again
 });
-/** @type {(files: File[]) => void} */
-function openPictures(files) {
+/** @type {(files: File[]) => Promise<void>} */
+async function openPictures(files) {
   const pdf = files.find(isPdf), pictures = files.filter((file) => !isPdf(file));
-  if (pictures.length) readPictures(pictures, leftWords(pdf ? [pdf] : []));
-  else if (pdf) takeFile(pdf, "");
+  if (pictures.length) await readPictures(pictures, leftWords(pdf ? [pdf] : []));
+  else if (pdf) await takeFile(pdf, "");
 }
 export function wireDropping() {
   document.addEventListener("paste", pasted);

@@ -58,9 +58,12 @@ export function luminanceOf({ data, width, height }) {
   const count = width * height;
   if (data.length === count) return data instanceof Uint8Array ? data : Uint8Array.from(data);
   if (data.length !== 4 * count) throw new TypeError("a picture has four numbers for each pixel, or one");
-  const grey = new Uint8Array(count);
-  for (let k = 0, p = 0; k < count; k++, p += 4) {
-    const alpha = data[p + 3], light = 299 * data[p] + 587 * data[p + 1] + 114 * data[p + 2] + 500;
+  const isWhole = (data instanceof Uint8ClampedArray || data instanceof Uint8Array) && data.byteOffset % 4 === 0;
+  const bytes = isWhole ? data : Uint8ClampedArray.from(data), grey = new Uint8Array(count);
+  const pixels = new Uint32Array(bytes.buffer, bytes.byteOffset, count);
+  for (let k = 0; k < count; k++) {
+    const pixel = pixels[k], alpha = pixel >>> 24;
+    const light = 299 * (pixel & 255) + 587 * ((pixel >>> 8) & 255) + 114 * ((pixel >>> 16) & 255) + 500;
     grey[k] = alpha === 255 ? ((light + 0.25) * 0.001) | 0 : ((light / 1000) * alpha + 255 * (255 - alpha)) / 255;
   }
   return grey;

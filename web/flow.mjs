@@ -19,7 +19,7 @@ export const desks = /** @type {any} */ ({ readsFiles: true });
 /** @type {(script: string, code: import("./desk.mjs").Code) => Promise<any>} */
 export function openDesks(script, code) {
   desks.quick = new Desk(script, code);
-  desks.pictures = new Desk(script, code);
+  desks.pictures = new Desk(script, { ...code, isForPictures: true });
   return desks.quick.start();
 }
 
@@ -124,10 +124,13 @@ const showing = [];
 export const whenShown = (listener) => { showing.push(listener); };
 /** @type {Record<string, boolean>} */
 const areDetailsOpen = { read: false, make: false, learn: true }; // as they were left in each task
+let isOpen = false; // whether a task is shown yet
 
 // Opens a task; what is learnt is about the symbol that was at hand, unless another is named.
 /** @type {(task: string, pane?: "write" | "read") => void} */
 export function showTask(task, pane = PANE_OF[task] ?? store.pane) {
+  const isOther = !isOpen || store.task !== task || store.pane !== pane;
+  isOpen = true;
   store.task = task;
   store.pane = pane;
   document.body.dataset.task = task;
@@ -141,7 +144,7 @@ export function showTask(task, pane = PANE_OF[task] ?? store.pane) {
   $("symbol").setAttribute("role", task === "learn" ? "application" : "img");
   $("symbol").tabIndex = task === "learn" ? 0 : -1;
   for (const listener of showing) listener(task);
-  redraw();
+  if (isOther) redraw();
 }
 export function wireDetails() {
   $("details").addEventListener("toggle", () => { areDetailsOpen[store.task] = folded("details").open; });

@@ -7,20 +7,22 @@ import { gatherAll } from "./gathered.mjs";
 import { keepSoon, kept } from "./kept.mjs";
 import { keyOfContent } from "./contents.mjs";
 import { copiedLines, csvOf, jsonOf, listIn, remarksOn, saidBy, whyUnread } from "./listed.mjs";
-import { brokenWords, enter, isBroken, refuse, whenEntered } from "./order.mjs";
+import { SOON, brokenWords, enter, isBroken, refuse, whenEntered } from "./order.mjs";
 import { panes } from "./state.mjs";
 import { copyText, save } from "./taking.mjs";
 
 /** @typedef {import("./listed.mjs").Sighted} Sighted */
-/** @typedef {{ symbols: Sighted[], unread: Sighted[], isComplete: boolean, hasQrCode?: boolean, width: number,
+/** @typedef {{ symbols: Sighted[], unread: Sighted[], isComplete: boolean, other?: string, width: number,
     height: number, view?: ImageBitmap }} Sights */
 /** @typedef {{ name: string, why: string, view: Blob | null, size: { width: number, height: number },
     symbols: Sighted[] }} Picture one of several, with what is seen in it, or why nothing is read */
-/** @type {{ list: Sighted[], isComplete: boolean, hasQrCode: boolean, chosen: Sighted | null, pictures: Picture[],
+/** @type {{ list: Sighted[], isComplete: boolean, other: string, chosen: Sighted | null, pictures: Picture[],
     shown: Picture | null }} with the pictures, if there are several, of which one is shown */
-const scene = { list: [], isComplete: true, hasQrCode: false, chosen: null, pictures: [], shown: null };
+const scene = { list: [], isComplete: true, other: "", chosen: null, pictures: [], shown: null };
 const KEPT = "found";
-let isOwn = false; // whether what is entered is chosen here
+let isOwn = false, isStanding = false; // whether what is entered is chosen here; or a picture, which may be read soon
+let isBrought = false; // whether what was kept is back: until then nothing takes its place
+let clearing = 0; // the timer after which what was found doesn't stand any more beside a picture that isn't read yet
 
 // ---- Drawing
 
@@ -57,19 +59,19 @@ function showChosen(hadFocus) {
   if (hadFocus) own.focus({ preventScroll: true });
 }
 function drawList() {
-  const { list, isComplete, hasQrCode, chosen } = scene, read = list.filter(({ isRead }) => isRead).length;
-  $("found").hidden = list.length - read === 0 && read < 2 && isComplete && !hasQrCode && !scene.pictures.length;
+  const { list, isComplete, other, chosen } = scene, read = list.filter(({ isRead }) => isRead).length;
+  $("found").hidden = list.length - read === 0 && read < 2 && isComplete && !other && !scene.pictures.length;
   setUsable("found-copy", read > 0);
   $("found-title").textContent = plural(read, "symbol is read", "symbols are read");
   const unread = list.length - read, more = isComplete ? "" : "There may be more: the time for a picture was over.";
   const not = unread ? `${plural(unread, "is", "are")} seen and not read.` : "";
-  const other = hasQrCode ? "There is a QR code too, which isn’t a Data Matrix symbol." : "";
-  hint("found-hint", [not, other, more].filter(Boolean).join(" "));
+  const too = other ? `There is ${other} too, which isn’t a Data Matrix symbol.` : "";
+  hint("found-hint", [not, too, more].filter(Boolean).join(" "));
   const hadFocus = $("found-are").contains(document.activeElement);
   const { pictures } = scene;
   $("found-are").replaceChildren(...(pictures.length ? pictures.flatMap(entriesOf) : list.map(entryOf)));
-  showChosen(hadFocus);
-  keepSoon(KEPT, () => (list.length ? jsonOf(list, isComplete) : ""));
+  if (hadFocus || list.length > 1) showChosen(hadFocus); // (to look where it stands has all laid out)
+  if (isBrought) keepSoon(KEPT, () => (list.length ? jsonOf(list, isComplete) : ""));
   const size = { width: Number($("outlines").dataset.width) || 1, height: Number($("outlines").dataset.height) || 1 };
   drawOutlines($("outlines"), scene.shown?.symbols ?? list, size, chosen, choose);
 }
@@ -89,10 +91,11 @@ function drawView(view, { width, height }) {
 
 // Shows what stands in a picture; `chosen` is at hand.
 /** @type {(sights: Sights, chosen?: Sighted | null) => void} */
-export function showSights({ symbols, unread, isComplete, hasQrCode = false, width, height, view }, chosen = null) {
+export function showSights({ symbols, unread, isComplete, other = "", width, height, view }, chosen = null) {
+  clearTimeout(clearing);
   if (view) drawView(view, { width, height });
   gatherAll(symbols);
-  Object.assign(scene, { list: [...symbols, ...unread], isComplete, hasQrCode, chosen, pictures: [], shown: null });
+  Object.assign(scene, { list: [...symbols, ...unread], isComplete, other, chosen, pictures: [], shown: null });
   drawList();
 }
 // Adds to the list what the camera sees for the first time; returns that.
@@ -139,13 +142,20 @@ async function showPictureOf(symbol) {
   if (scene.shown === own) drawView(view, own.size);
 }
 export function clearSights() {
-  Object.assign(scene, { list: [], isComplete: true, hasQrCode: false, chosen: null, pictures: [], shown: null });
+  clearTimeout(clearing);
+  Object.assign(scene, { list: [], isComplete: true, other: "", chosen: null, pictures: [], shown: null });
   $("scene").hidden = true;
   drawList();
 }
 /** @type {(symbol: Sighted) => boolean} */
 export const isShown = (symbol) => scene.list.includes(symbol);
 export const isKeepingSights = () => isOwn;
+// Enters something beside which the list stands until it is read, but not for long.
+/** @type {(act: () => any) => any} */
+export function lettingSightsStand(act) {
+  isStanding = true;
+  try { return act(); } finally { isStanding = false; }
+}
 // Does something by which the list stays as it is.
 /** @type {(act: () => any) => any} */
 export function keepingSights(act) {
@@ -167,6 +177,7 @@ export function choose(symbol) {
 // Brings back the list that was kept.
 export async function bringFound() {
   const list = listIn(new TextEncoder().encode(kept(KEPT)));
+  isBrought = true;
   const sights = list && await desks.quick.ask("again", list, "found");
   if (!sights?.symbols || scene.list.length) return;
   const { original } = panes.read;
@@ -174,7 +185,11 @@ export async function bringFound() {
   showSights(sights, [...sights.symbols, ...sights.unread].find(isAtHand) ?? null);
 }
 export function wireFound() {
-  whenEntered((it) => { if (it === panes.read && !isOwn) clearSights(); });
+  whenEntered((it) => {
+    if (it !== panes.read) return;
+    clearTimeout(clearing);
+    if (isStanding) clearing = setTimeout(clearSights, SOON); else if (!isOwn) clearSights();
+  });
   const read = () => scene.list.filter(({ isRead }) => isRead);
   const file = (/** @type {string} */ text, /** @type {string} */ type) => new Blob([text], { type });
   whenUsed("found-copy", () => copyText(copiedLines(read()),

@@ -5,20 +5,22 @@ import { plural, shapeWords } from "./common.mjs";
 import { $, field, hint } from "./dom.mjs";
 import { desks, showTask, take } from "./flow.mjs";
 import {
-  addPicture, beginPictures, choose, clearSights, isKeepingSights, isShown, keepingSights, showSights,
+  addPicture, beginPictures, choose, clearSights, isKeepingSights, isShown, keepingSights, lettingSightsStand,
+  showSights,
 } from "./found.mjs";
 import { gridText } from "./grids.mjs";
 import { beginEntry } from "./link.mjs";
-import { brokenWords, clear, enter, isBroken, refuse, whenEntered } from "./order.mjs";
+import { SOON, brokenWords, clear, enter, isBroken, refuse, whenEntered } from "./order.mjs";
 import { panes } from "./state.mjs";
 import { drawnSvg } from "./svg.mjs";
 import { stood } from "./words.mjs";
 
 /** @typedef {import("./pictures.mjs").Sighted} Sighted */
-/** @typedef {{ files: File[], note: string, at: number, isStopped: boolean }} Batch of pictures, and how many of these
-    were looked at */
+/** @typedef {{ files: File[], note: string, at: number, isStopped: boolean, isTold: boolean, progress: string }} Batch
+    of pictures, how many of these were looked at, and whether it is told how far that is */
 const LIKEST = " What looks most like one is outlined, and listed with the reason.";
 const REMEDY = "Take it from nearer, straight from above, sharp and without glare; or enter its grid as text.";
+const SHOWN_LENGTH = 560; // of a picture, in pixels of style sheets, of which a screen has several
 const LONGER = { time: 30000, most: 400 }; // milliseconds, and symbols, if a picture is looked at longer
 /** @type {{ time?: number }} milliseconds for a picture, if not the usual ones: none by the clock where infinite */
 export const limits = {};
@@ -28,13 +30,14 @@ const isSvg = (file) => file.type === "image/svg+xml";
 /** @type {(file: Blob) => any} */
 function questionOf(file) {
   if (isSvg(file)) return drawnSvg(file);
-  return desks.readsFiles ? { file } : bitmapOf(file);
+  return desks.readsFiles ? { file } : bitmapOf(file, true);
 }
 /** @type {(file: Blob, lane: string, how?: { kind?: string, more?: any, tell?: any }) => Promise<any>} */
 export async function lookAt(file, lane, { kind = "picture", more = null, tell = null } = {}) {
-  const question = { ...limits, ...await questionOf(file) }, { why, bitmap } = question;
-  const given = more ? more(question) : question;
-  return why ? { why } : desks.pictures.ask(kind, given, lane, { transfer: bitmap ? [bitmap] : [], tell });
+  const shown = Math.ceil(SHOWN_LENGTH * devicePixelRatio);
+  const question = { shown, ...limits, ...await questionOf(file) }, { why, bitmap, picture } = question;
+  const given = more ? more(question) : question, transfer = [bitmap, picture?.data.buffer].filter(Boolean);
+  return why ? { why } : desks.pictures.ask(kind, given, lane, { transfer, tell });
 }
 // Asks what stands in a frame of the camera.
 /** @type {(given: { bitmap: ImageBitmap, isOpaque: boolean, most: number, time: number }, lane: string) =>
@@ -48,28 +51,39 @@ export const pending = { pictures: 0, last: null };
 /** @type {(files: File[], note?: string) => Promise<void>} */
 export async function readPictures(files, note = "") {
   /** @type {Batch} */
-  const batch = { files, note, at: 0, isStopped: false }, it = panes.read;
+  const batch = { files, note, at: 0, isStopped: false, isTold: false, progress: "" };
   beginEntry();
   showTask("read");
   pending.last = batch;
   pending.pictures++;
-  const question = () => (files.length > 1 ? untilRead(batch) : lookAtOne(batch));
-  const looking = enter(it, () => question().finally(() => { pending.pictures--; }), (sights) => {
-    if (files.length > 1) takeFirst(batch, sights); else takePicture(batch, sights);
-  });
-  tellProgress(batch);
-  const isTaken = await looking, name = files.length > 1 ? "The pictures were" : `${nameOf(batch)} was`;
+  const telling = setTimeout(tellFromNow, SOON, batch); // what is read by then is drawn once
+  const isTaken = await lettingSightsStand(() => enterPictures(batch));
+  clearTimeout(telling);
+  batch.isTold = true;
+  const name = files.length > 1 ? "The pictures were" : `${nameOf(batch)} was`;
   if (isTaken && files.length > 1) await takeOthers(batch);
   else if (!isTaken && pending.last === batch)
     hint("picture-hint", `${name} given up, since something else was entered meanwhile.`);
+}
+/** @type {(batch: Batch) => Promise<boolean>} */
+function enterPictures(batch) {
+  const isOne = batch.files.length === 1, question = () => (isOne ? lookAtOne(batch) : untilRead(batch));
+  const take = (/** @type {any} */ sights) => { if (isOne) takePicture(batch, sights); else takeFirst(batch, sights); };
+  return enter(panes.read, () => question().finally(() => { pending.pictures--; }), take, false);
 }
 /** @type {(batch: Batch, at?: number) => string} */
 const nameOf = ({ files, at }, own = at) => files[own].name || "The picture";
 /** @type {(batch: Batch, progress?: string) => void} */
 function tellProgress(batch, progress = "") {
-  if (pending.last !== batch) return;
+  batch.progress = progress;
+  if (pending.last !== batch || !batch.isTold) return;
   const { files, at } = batch, which = files.length > 1 ? ` (${at + 1} of ${files.length})` : "";
   hint("picture-hint", `Looking at ${nameOf(batch)}${which}${progress && `: ${progress}`}…`);
+}
+/** @type {(batch: Batch) => void} */
+function tellFromNow(batch) {
+  batch.isTold = true;
+  tellProgress(batch, batch.progress);
 }
 /** @type {(batch: Batch, given?: object) => Promise<any>} */
 const lookAtOne = (batch, given = {}) => lookAt(batch.files[batch.at], "picture",
@@ -141,7 +155,7 @@ function takeSymbol(symbol) {
 function takePicture(batch, sights) {
   const it = panes.read, { symbols = [], unread = [], view } = sights, name = nameOf(batch), { note } = batch;
   const symbol = symbols[0] ?? unread.find((/** @type {Sighted} */ { isExact }) => isExact);
-  if (view) showSights(sights, symbol);
+  if (view) showSights(sights, symbol); else clearSights();
   if (!symbol) {
     const why = isBroken(sights) ? brokenWords(sights) : `${sights.why}${unread.length ? LIKEST : ""}`;
     hint("picture-hint", `${name}: ${why}${note}`, true);

@@ -6,7 +6,7 @@ import { tellLink } from "./link.mjs";
 import { BAD, EMPTY, VALID, WORKING, mark, stamp } from "./state.mjs";
 
 /** @typedef {import("./state.mjs").Mark} Mark */
-const SOON = 200; // milliseconds after which an old verdict isn't left standing while the worker is at work
+export const SOON = 200; // milliseconds after which an old verdict isn't left standing while the worker is at work
 
 const BROKEN = { stopped: "It was stopped before there was an answer. Change what is entered, or enter it again." };
 /** @type {(answer: { stopped?: boolean, failed?: string }) => string} */
@@ -27,14 +27,14 @@ function supersede(it) {
   it.turn = Promise.resolve();
   for (const listener of entering) listener(it);
 }
-// From here on the mark's verdict is in doubt.
-/** @type {(it: Mark) => number} */
-export function work(it) {
+// From here on the mark's verdict is in doubt. That is shown at once, or, where that isn't asked for, soon.
+/** @type {(it: Mark, isAtOnce?: boolean) => number} */
+export function work(it, isAtOnce = true) {
   const own = stamp();
   it.stage = WORKING;
   it.changed = own;
   setTimeout(() => { if (it.changed === own && it.stage === WORKING && it === mark()) redraw(); }, SOON);
-  if (it === mark()) redrawStage();
+  if (isAtOnce && it === mark()) redrawStage();
   return own;
 }
 // From here on the mark's verdict is about what is entered and done.
@@ -65,13 +65,13 @@ export function clear(it) {
 const failedAt = (it) => (why) => refuse(it, brokenWords({ failed: why.message }));
 
 // Enters what a question brings: `take` is given its answer, which may be that it was stopped or failed, unless
-// something else is entered before it comes. Resolves to whether it was taken.
-/** @type {(it: Mark, question: () => any, take: (answer: any) => void) => Promise<boolean>} */
-export function enter(it, question, take) {
+// something else is entered before it comes. Resolves to whether it was taken. What is shown changes as `work` says.
+/** @type {(it: Mark, question: () => any, take: (answer: any) => void, isAtOnce?: boolean) => Promise<boolean>} */
+export function enter(it, question, take, isAtOnce = true) {
   supersede(it);
   it.isEntering = true;
   const own = it.entered;
-  work(it);
+  work(it, isAtOnce);
   const answered = async () => {
     const answer = await question();
     if (it.entered !== own) return false;

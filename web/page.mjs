@@ -2,6 +2,7 @@
 // the modules beside this one are only the glue to it, words and drawing, and how symbols are found in pictures: none
 // of that is proved.
 import { wireCamera } from "./camera.mjs";
+import { wireWords } from "./cells.mjs";
 import { wireCompare } from "./compare.mjs";
 import { wireDamage } from "./damage.mjs";
 import { waysOfText } from "./charsets.mjs";
@@ -27,6 +28,7 @@ import { spelled } from "./messages.mjs";
 import { wirePreview } from "./preview.mjs";
 import { wirePrinting } from "./printing.mjs";
 import { limits, pending, wireLooking } from "./looking.mjs";
+import { SOON } from "./order.mjs";
 import { drawBy } from "./redraw.mjs";
 import { restore, wireSource } from "./source.mjs";
 import { wireSerial } from "./serial.mjs";
@@ -39,14 +41,13 @@ import { toast, wireTaking } from "./taking.mjs";
 // A module that has only the type of a function that gives a vector: without SIMD there is none.
 const SMALL_MODULE = new Uint8Array([0, 97, 115, 109, 1, 0, 0, 0, 1, 5, 1, 96, 0, 1, 123]);
 const hasVectors = () => typeof WebAssembly === "object" && WebAssembly.validate(SMALL_MODULE);
-const BUSY_AFTER = 300; // milliseconds until a running thing shows that it runs
 
 function wireBusy() {
   let timer = 0;
   const show = () => { $("busy").hidden = !isWorking(); timer = 0; };
   whenChanged(() => {
     if (!isWorking()) { clearTimeout(timer); timer = 0; $("busy").hidden = true; return; }
-    timer ||= setTimeout(show, Math.max(0, BUSY_AFTER - (performance.now() - workingSince())));
+    timer ||= setTimeout(show, Math.max(0, SOON - (performance.now() - workingSince())));
   });
   $("stop").addEventListener("click", stopAll);
 }
@@ -73,7 +74,7 @@ async function startPage() {
   desks.readsFiles = loaded.readsFiles;
   listSizes(loaded.sizes);
   drawBy(drawAll, drawStage);
-  wireBusy(); wireDetails(); wireDamage(); wireSource(); wireDropping();
+  wireBusy(); wireDetails(); wireWords(); wireDamage(); wireSource(); wireDropping();
   wireTaking(); wireLines(); wireSerial(); wirePreview(); wirePrinting(); wireLesson(); wireCamera(); wireFound();
   wireGathered(); wireLooking(); wireStart();
   const ways = [waysOfText("Mitsubadoor")], how = { form: ASCII, shape: SQUARE, rows: 0, columns: 0 };

@@ -1,11 +1,11 @@
 // The symbols in a picture: found by the sampler, in bounded time, or taken as they are where the picture is a grid.
-import { bitmapOf } from "./bitmap.mjs";
-import { there } from "./common.mjs";
+import { bitmapOf, drawn, penOf } from "./bitmap.mjs";
+import { ASCII, SQUARE, there } from "./common.mjs";
+import { contentOf } from "./contents.mjs";
 import { luminanceOf } from "./ecc200.mjs";
 import { found, hasBorder, hasShape } from "./grids.mjs";
 import { SAMPLER } from "./layouts.mjs";
 import { extent, gridsOfPixels } from "./pixels.mjs";
-import { qrCodeIn } from "./qr.mjs";
 import { unspread } from "./quality.mjs";
 import { ANY_TIME } from "./sampler.mjs";
 
@@ -23,13 +23,11 @@ import { ANY_TIME } from "./sampler.mjs";
 /** @typedef {Grid & { corners: import("./sampler.mjs").Point[], isRead: boolean, how: string,
     doubtful: Uint8Array | null, limit: Limit, picture?: string }} Kept of a symbol in a list that was saved */
 /** @typedef {{ grey: Uint8Array, width: number, height: number, scale: number, contrast: number,
-    between: [number, number], isOneColour: boolean, view: ImageBitmap }} Look at a picture: `scale` of its pixels each
-    way make one; by how much its greys differed, and between which they are now */
-/** @typedef {{ why?: string, symbols: Sighted[], unread: Sighted[], hasQrCode?: boolean, isComplete: boolean,
-    notes: string, left: number, width: number, height: number, view?: ImageBitmap }} Sights in a picture; how much of
-    its time is left */
-const MOST_SAMPLED = 1.6e7; // pixels of what is looked at
-const SHOWN_LENGTH = 1024, LENGTH_OF_CODES = 1400; // pixels of the longer side: shown, and searched for other codes
+    between: [number, number], isOneColour: boolean, view: ImageBitmap | null }} Look at a picture: `scale` of its
+    pixels each way make one; by how much its greys differed, and between which they are now; and as it is shown */
+/** @typedef {{ why?: string, symbols: Sighted[], unread: Sighted[], other?: string, isComplete: boolean,
+    notes: string, left: number, width: number, height: number, view?: ImageBitmap | null }} Sights in a picture; which
+    code of another kind it shows, as "a QR code"; how much of its time is left */
 const MOST_TIME = 3000, TIME_OF_CODES = 200; // milliseconds for a picture, of which for other codes at least
 const MOST_SYMBOLS = 400, MOST_UNREAD = 8;
 // Of 255: below the first nothing is told apart, below the second greys are spread.
@@ -38,24 +36,6 @@ const MANY = 1e6, SOME = 7; // pixels, of which every so many are enough where g
 
 // ---- The picture
 
-/** @type {(bitmap: ImageBitmap, share: number) => { width: number, height: number, scale: number }} */
-function sizeAt({ width, height }, share) {
-  const scaled = (/** @type {number} */ length) => Math.max(1, Math.round(length * share));
-  return { width: scaled(width), height: scaled(height), scale: 1 / share };
-}
-/** @type {(width: number, height: number) => any} */
-const penOf = (width, height) =>
-  new OffscreenCanvas(width, height).getContext("2d", { willReadFrequently: true, alpha: false });
-// A picture drawn at a size, on white paper where it may be transparent. It is drawn once: each time takes WebKit as
-// long, however little of it is wanted.
-/** @type {(bitmap: ImageBitmap, size: { width: number, height: number }, isOpaque: boolean) => any} */
-function drawn(bitmap, { width, height }, isOpaque) {
-  const pen = penOf(width, height);
-  [pen.imageSmoothingQuality, pen.fillStyle] = ["medium", "#fff"];
-  if (!isOpaque) pen.fillRect(0, 0, width, height);
-  pen.drawImage(bitmap, 0, 0, width, height);
-  return pen;
-}
 const EVEN = 0xfefefefe, OPAQUE = 0xff000000; // of four bytes
 /** @type {(one: number, other: number) => number} */
 const mean = (one, other) => ((one & EVEN) >>> 1) + ((other & EVEN) >>> 1);
@@ -63,6 +43,7 @@ const mean = (one, other) => ((one & EVEN) >>> 1) + ((other & EVEN) >>> 1);
 /** @type {(pixels: Uint32Array, width: number) => Colour} */
 const ofPixels = (pixels, width) => (x, y, half) => {
   const at = y * width + x, below = at + half * width;
+  if (!half) return pixels[at];
   return mean(mean(pixels[at], pixels[at + half]), mean(pixels[below], pixels[below + half])) | OPAQUE;
 };
 /** @type {(value: number) => number} */
@@ -76,10 +57,10 @@ const ofPlanes = ({ data, width, blue, red, across, down }) => (x, y, half) => {
   const green = byteOf(grey - 0.344 * b - 0.714 * r);
   return byteOf(grey + 1.402 * r) | (green << 8) | (byteOf(grey + 1.772 * b) << 16) | OPAQUE;
 };
-// A large picture as it is shown: of every few pixels each way the mean of four.
-/** @type {(size: { width: number, height: number }, colour: Colour) => ImageBitmap} */
-function viewOf({ width, height }, colour) {
-  const step = Math.ceil(Math.max(width, height) / SHOWN_LENGTH), half = step >> 1;
+// A picture as it is shown, with at most so many pixels on a side: of every few pixels each way the mean of four.
+/** @type {(size: { width: number, height: number }, shown: number, colour: Colour) => ImageBitmap} */
+function viewOf({ width, height }, shown, colour) {
+  const step = Math.ceil(Math.max(width, height) / shown), half = step >> 1;
   const across = Math.max(1, Math.floor(width / step)), down = Math.max(1, Math.floor(height / step));
   const small = penOf(across, down), all = small.createImageData(across, down), to = new Uint32Array(all.data.buffer);
   for (let r = 0, k = 0; r < down; r++)
@@ -96,22 +77,21 @@ function spread(grey) {
   for (let k = 0; k < grey.length; k++) grey[k] = ((grey[k] - least) * 255) / contrast;
   return { contrast, between: [0, 255] };
 }
-// Of a picture that is opened; `by` of its pixels each way make one of the bitmap.
-/** @type {(opened: import("./bitmap.mjs").Opened) => Look} */
-function lookOf({ planes, bitmap, by = 1, isOpaque = false }) {
+// Of a picture that is opened; `by` of its pixels each way make one of the bitmap. It is shown with at most so many
+// pixels on a side, or not at all.
+/** @type {(opened: import("./bitmap.mjs").Opened, shown: number) => Look} */
+function lookOf({ planes, bitmap, picture: given = null, by = 1, isOpaque = false }, shown) {
   if (planes) {
     const { width, height } = planes, grey = planes.data.subarray(0, width * height);
-    const view = viewOf(planes, ofPlanes(planes)), { contrast, between } = spread(grey);
+    const view = shown ? viewOf(planes, shown, ofPlanes(planes)) : null, { contrast, between } = spread(grey);
     return { width, height, scale: 1, grey, contrast, between, isOneColour: contrast === 0, view };
   }
-  const image = there(bitmap), share = Math.sqrt(MOST_SAMPLED / (image.width * image.height));
-  const size = sizeAt(image, Math.min(1, share)), pen = drawn(image, size, isOpaque);
-  const picture = pen.getImageData(0, 0, size.width, size.height), pixels = new Uint32Array(picture.data.buffer);
+  const { picture, share } = given ? { picture: given, share: 1 } : drawn(there(bitmap), isOpaque);
+  const { width, height } = picture, pixels = new Uint32Array(picture.data.buffer);
   const grey = luminanceOf(picture), { contrast, between } = spread(grey);
   const isOne = contrast === 0 && pixels.every((pixel) => pixel === pixels[0]);
-  const view = Math.max(size.width, size.height) > SHOWN_LENGTH ? viewOf(size, ofPixels(pixels, size.width))
-    : pen.canvas.transferToImageBitmap();
-  return { ...size, scale: size.scale * by, grey, contrast, between, isOneColour: isOne, view };
+  const view = shown ? viewOf(picture, shown, ofPixels(pixels, width)) : null;
+  return { width, height, scale: by / share, grey, contrast, between, isOneColour: isOne, view };
 }
 /** @type {(look: Look) => string} */
 function alike({ contrast, isOneColour: isOne }) {
@@ -182,14 +162,6 @@ export function foundBefore(library, { symbols, isComplete }) {
   return { ...nothing(""), isComplete, symbols: all.filter(({ isRead }) => isRead),
     unread: all.filter(({ isRead }) => !isRead) };
 }
-// A picture of which every n-th pixel is left, if it is large.
-/** @type {(look: Look) => { grey: Uint8Array, width: number, height: number, step: number }} */
-function smaller({ grey, width, height }) {
-  const step = Math.ceil(Math.max(width, height) / LENGTH_OF_CODES), across = Math.floor(width / step);
-  const down = Math.floor(height / step);
-  const at = (/** @type {number} */ k) => Math.floor(k / across) * step * width + (k % across) * step;
-  return { grey: Uint8Array.from({ length: across * down }, (_, k) => grey[at(k)]), width: across, height: down, step };
-}
 // Whether a place is inside of a convex shape of these corners.
 /** @type {(corners: import("./sampler.mjs").Point[], at: { x: number, y: number }) => boolean} */
 function isInside(corners, { x, y }) {
@@ -199,14 +171,15 @@ function isInside(corners, { x, y }) {
   });
   return sides.every((side) => side === sides[0]);
 }
-// Whether there is a QR code, and of what isn't read what isn't a part of it: what looks like a symbol there is none.
-/** @type {(look: Look, unread: Sighted[], end: number) => { hasQrCode: boolean, unread: Sighted[] }} */
-function besideQrCode(look, unread, end) {
-  const small = smaller(look), corners = qrCodeIn(small, end), each = 1 / (small.step * look.scale);
-  /** @type {(it: Sighted) => Point} */
-  const middle = ({ corners: at }) => ({ x: ((at[0].x + at[2].x) / 2) * each, y: ((at[0].y + at[2].y) / 2) * each });
-  return { hasQrCode: corners !== null,
-    unread: unread.filter((symbol) => !corners || !isInside(corners, middle(symbol))) };
+// Which code of another kind there is, and of what isn't read what has neither its middle nor a corner in it: what
+// looks like a symbol there is none.
+/** @type {(ecc200: Ecc200, look: Look, unread: Sighted[]) => { other: string, unread: Sighted[] }} */
+function besideOther({ sampler }, { grey, width, height, scale }, unread) {
+  const other = sampler.otherCode(grey, width, height);
+  /** @type {(it: Sighted) => boolean} */
+  const isApart = ({ corners: at }) => [...at, { x: (at[0].x + at[2].x) / 2, y: (at[0].y + at[2].y) / 2 }]
+    .every(({ x, y }) => !other || !isInside(other.corners, { x: x / scale, y: y / scale }));
+  return { other: other?.name ?? "", unread: unread.filter(isApart) };
 }
 
 // ---- Questions
@@ -222,14 +195,15 @@ let kept = null;
 const nothing = (why) => ({ why, symbols: [], unread: [], isComplete: true, notes: "", left: 0, width: 0, height: 0 });
 const NONE_FOUND = "No symbol that can be read was found in the picture.";
 
-// The first symbol in a picture, or why there is none; with a small picture to be shown, unless it is of the camera.
-/** @type {(ecc200: Ecc200, given: import("./bitmap.mjs").Opened & { file?: Blob, most?: number, time?: number },
-    tell: any) => Promise<Sights>} */
-export async function firstInPicture(ecc200, { file, most = 1, time = MOST_TIME, ...given }, tell) {
+// The first symbol in a picture, or why there is none; with a small picture to be shown, of at most `shown` pixels on a
+// side, if that is asked for.
+/** @type {(ecc200: Ecc200, given: import("./bitmap.mjs").Opened & { file?: Blob, most?: number, time?: number,
+    shown?: number }, tell: any) => Promise<Sights>} */
+export async function firstInPicture(ecc200, { file, most = 1, time = MOST_TIME, shown = 0, ...given }, tell) {
   kept = null;
   const opened = file ? await bitmapOf(file) : given;
   if (opened.why) return nothing(opened.why);
-  const look = lookOf(opened);
+  const look = lookOf(opened, shown);
   if (look.contrast < NO_CONTRAST) return { ...nothing(alike(look)), view: look.view };
   tell("looking for symbols");
   const end = performance.now() + time;
@@ -239,18 +213,34 @@ export async function firstInPicture(ecc200, { file, most = 1, time = MOST_TIME,
     : sampled(ecc200, look, most, end - TIME_OF_CODES);
   if (!isGrid && grid && !sights.symbols.length) sights.unread = [{ ...grid, isExact: true }];
   kept = { look, sights, end };
-  return { ...sights, ...(sights.symbols.length ? {} : remarked(look, sights, end)), view: look.view };
+  return { ...sights, ...(sights.symbols.length ? {} : remarked(ecc200, look, sights)), view: look.view };
 }
 // What is said of a picture in which nothing is read.
-/** @type {(look: Look, sights: Sights, end: number) => Partial<Sights>} */
-function remarked(look, { unread: all, why }, end) {
-  const { hasQrCode, unread } = besideQrCode(look, all, end), { contrast } = look;
-  const other = hasQrCode ? " It shows a QR code, which isn’t a Data Matrix symbol." : "";
+/** @type {(ecc200: Ecc200, look: Look, sights: Sights) => Partial<Sights>} */
+function remarked(ecc200, look, { unread: all, why }) {
+  const { other, unread } = besideOther(ecc200, look, all), { contrast } = look;
+  const shows = other ? ` It shows ${other}, which isn’t a Data Matrix symbol.` : "";
   const notes = contrast < LITTLE_CONTRAST ? ` Its contrast is low: its greys differ by ${contrast} of 255.` : "";
-  return { notes, unread, why: why || `${NONE_FOUND}${other}${notes}` };
+  return { notes, unread, why: why || `${NONE_FOUND}${shows}${notes}` };
 }
-// All symbols in the picture that was looked at last, in what is left of its time, and whether it has a QR code; null
-// if it is another one by now.
+const WARM = { side: 220, each: 6, turn: 0.4, times: 6 }; // pixels, of a module too; radians
+// Looks at a symbol that is drawn here, turned and on uneven paper, so that what finds symbols is compiled as well as
+// can be before the first picture comes.
+/** @type {(ecc200: Ecc200) => void} */
+export function warmUp({ library, sampler }) {
+  const { side, each, turn, times } = WARM, how = { form: ASCII, shape: SQUARE, rows: 0, columns: 0 };
+  const { modules, rows, columns } = /** @type {Grid} */ (library.write(contentOf([...Array(20).keys()]), how));
+  const [cosine, sine] = [Math.cos(turn) / each, Math.sin(turn) / each];
+  const grey = Uint8Array.from({ length: side * side }, (_, k) => {
+    const x = (k % side) - side / 2, y = Math.floor(k / side) - side / 2;
+    const c = Math.floor(x * cosine + y * sine + columns / 2), r = Math.floor(y * cosine - x * sine + rows / 2);
+    const isDark = r >= 0 && r < rows && c >= 0 && c < columns && modules[r * columns + c];
+    return (isDark ? 50 : 200) + ((7 * k + 13 * y) % 23);
+  });
+  for (let k = 0; k < times; k++) sampler.find(grey, side, side, { mostUnread: MOST_UNREAD, quality: true });
+}
+// All symbols in the picture that was looked at last, in what is left of its time, and which code of another kind it
+// has; null if it is another one by now.
 /** @type {(ecc200: Ecc200) => Sights | null} */
 export function restOfPicture(ecc200) {
   if (!kept) return null;
@@ -260,6 +250,6 @@ export function restOfPicture(ecc200) {
   const rest = sampled(ecc200, look, MOST_SYMBOLS, end - TIME_OF_CODES);
   /** @type {(it: Sighted) => boolean} */
   const isThere = ({ corners }) => rest.symbols.some((other) => isNear(corners[0], other.corners[0]));
-  return { ...rest, ...besideQrCode(look, rest.unread, end),
+  return { ...rest, ...besideOther(ecc200, look, rest.unread),
     symbols: [...sights.symbols.filter((symbol) => !isThere(symbol)), ...rest.symbols] };
 }

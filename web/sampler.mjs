@@ -129,6 +129,30 @@ export class Sampler {
       for (const room of rooms) this.c.free(room);
     }
   }
+  // The code of another kind that a picture shows clearly, as "a QR code", and its corners; null if there is none.
+  /** @type {(luminance: ArrayLike<number>, width: number, height: number) =>
+      { name: string, corners: Point[] } | null} */
+  otherCode(luminance, width, height) {
+    const rooms = [luminance.length, 4 * POINT.size].map((size) => this.c.malloc(size) >>> 0);
+    const [picture, corners] = rooms;
+    try {
+      if (rooms.includes(0)) return null;
+      this.bytes(picture, luminance.length).set(luminance);
+      const name = this.c.ecc200_sample_other_code(picture, width, height, width, corners) >>> 0;
+      if (name === 0) return null;
+      const all = new Uint8Array(this.buffer), letters = all.subarray(name, all.indexOf(0, name));
+      return { name: String.fromCharCode(...letters), corners: this.pointsAt(corners, 4) };
+    } finally {
+      for (const room of rooms) this.c.free(room);
+    }
+  }
+  /** @type {(at: number, count: number) => Point[]} */
+  pointsAt(at, count) {
+    const view = new DataView(this.buffer);
+    const coordinate = (/** @type {number} */ place) => view.getFloat64(at + place, true);
+    return Array.from({ length: count }, (_, k) =>
+      ({ x: coordinate(k * POINT.size + POINT.x), y: coordinate(k * POINT.size + POINT.y) }));
+  }
   // How good the print of a symbol is; nothing, if there is no memory to measure it.
   /** @type {(picture: number, width: number, height: number, symbol: number, out: number) =>
       { quality?: import("./quality.mjs").Quality }} */
@@ -150,8 +174,6 @@ export class Sampler {
     const rows = number(SAMPLE.rows), columns = number(SAMPLE.columns), why = number(SAMPLE.unread);
     const grid = (/** @type {number} */ place) => this.bytes(at + place, rows * columns).slice();
     const doubtful = grid(SAMPLE.doubtful);
-    /** @type {(k: number, of: number) => number} */
-    const coordinate = (k, of) => view.getFloat64(at + SAMPLE.corners + k * POINT.size + of, true);
     const isRefused = why === REFUSED;
     const ofReading = (/** @type {number} */ member) => (isRefused ? 0 : number(SAMPLE.reading + member));
     const of = (/** @type {number} */ member) => number(SAMPLE.reading + READING.fault + member);
@@ -159,7 +181,7 @@ export class Sampler {
     const inBlocks = (/** @type {number} */ member) => [...this.bytes(at + SAMPLE.reading + member, blocks)];
     return {
       rows, columns, modules: grid(SAMPLE.modules), doubtful: doubtful.includes(1) ? doubtful : null,
-      corners: [0, 1, 2, 3].map((k) => ({ x: coordinate(k, POINT.x), y: coordinate(k, POINT.y) })),
+      corners: this.pointsAt(at + SAMPLE.corners, 4),
       isInverted: view.getUint8(at + SAMPLE.inverted) === 1, isMirrored: view.getUint8(at + SAMPLE.mirrored) === 1,
       limit: number(SAMPLE.border_limit), hasMargin: why === READ || why === REFUSED,
       ...this.contentAt(view, at + SAMPLE.reading, isRefused),

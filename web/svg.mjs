@@ -2,6 +2,7 @@
 // So it is bounded before how much there is to draw, also by elements that are used many times, what takes long
 // whatever its size is refused by name, and it is drawn small first, to see how long it takes. What is drawn is what
 // was counted, written anew, whatever encoding or styles the file declares beside it.
+import { imageOf } from "./bitmap.mjs";
 import { there } from "./common.mjs";
 
 const MOST_OF_SVG = 4e6;
@@ -99,12 +100,9 @@ export async function drawnSvg(file) {
   const drawing = new DOMParser().parseFromString(text, "image/svg+xml"), why = whyNotDrawn(drawing);
   if (why) return { why };
   const counted = new XMLSerializer().serializeToString(drawing.documentElement);
-  const image = new Image(), url = URL.createObjectURL(new Blob([counted], { type: "image/svg+xml" }));
   try {
-    image.src = url;
-    await image.decode();
-    const canvas = drawnInTime(image);
+    const canvas = drawnInTime(await imageOf(new Blob([counted], { type: "image/svg+xml" })));
     if (!canvas) return { why: `The drawing takes too long to draw. ${INSTEAD}` };
     return { bitmap: canvas.transferToImageBitmap() };
-  } catch { return { why: "The file can’t be opened as a picture." }; } finally { URL.revokeObjectURL(url); }
+  } catch { return { why: "The file can’t be opened as a picture." }; }
 }

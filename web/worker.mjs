@@ -5,7 +5,7 @@ import { ASCII, SHORTER, SMALLEST, SQUARE, TOO_LONG, messageOf, there } from "./
 import { Ecc200 } from "./ecc200.mjs";
 import { damaged, examine, mostThatFit, plainMap } from "./examine.mjs";
 import { found, gridFrom } from "./grids.mjs";
-import { firstInPicture, foundBefore, restOfPicture } from "./pictures.mjs";
+import { firstInPicture, foundBefore, restOfPicture, warmUp } from "./pictures.mjs";
 
 /** @typedef {import("./common.mjs").Grid} Grid */
 /** @type {Ecc200} */
@@ -60,9 +60,10 @@ const oneOf = ({ symbols, unread, why }) => {
 
 /** @type {Record<string, (given: any) => any>} */
 const ANSWERS = {
-  async load({ library, sampler }) {
+  async load({ library, sampler, isForPictures }) {
     ecc200 = await Ecc200.load(library, sampler);
     lib = ecc200.library;
+    if (isForPictures) setTimeout(warmUp, 0, ecc200); // once this is answered
     return { readsFiles: await readsFiles(), sizes: [...lib.sizes.values()] };
   },
   // The symbol of one of some contents, in the way to write them that takes the fewest modules, and the shapes that it
@@ -89,7 +90,7 @@ const ANSWERS = {
   async judge({ ways, grid, symbol: chosen, picture: image }) {
     if (chosen) return judged(chosen);
     if (image) {
-      const sights = await picture(image);
+      const sights = await picture({ ...image, shown: 0 });
       return sights.symbols.length > 1 ? { symbols: sights.symbols } : judged(oneOf(sights));
     }
     if (grid !== undefined) return judged(gridGiven(grid));

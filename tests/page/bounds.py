@@ -3,8 +3,8 @@ taken, or said not to be."""
 import base64
 
 from tests.page.pictures import chunks, opened, png
-from tests.page.stage import (Keys, area_of, expect, find, give, grid, head, is_seen, on, processor_time, push, put,
-                              run, settle, shown, soon, text_of, unfold, value_of, wait_for, write, written)
+from tests.page.stage import (Keys, area_of, attribute, expect, find, give, grid, head, is_seen, on, processor_time,
+                              push, put, run, settle, shown, soon, text_of, unfold, value_of, wait_for, write, written)
 
 SOON = 6  # seconds of a processor that the page may take
 MANY_LINES = "#\n" * 130000
@@ -45,6 +45,11 @@ def much_is_refused():
     for name, area in (("a slot", area_of("b")), ("the grid", find("grid"))):
         taken = seconds_of(lambda: put(area, MANY_LINES))
         expect(f"130,000 lines put in {name}", (area.get_attribute("value"), taken < SOON), ("", True))
+    expect("the grid has no verdict, and is marked", ([shown()[it] for it in ("state", "says")],
+                                                      attribute("grid", "aria-invalid")),
+           (["Nothing is read", ""], "true"))
+    push("example-c40")
+    expect("a grid again", shown()["state"], "Read")
     expect("the slot says so", (head(), "260,000 characters" in text_of("slot-b")),
            (["No answer", "Symbol B can’t be taken."], True))
     taken = seconds_of(lambda: drop("#slot-a", text="\n" * 1500))

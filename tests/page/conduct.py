@@ -1,9 +1,9 @@
 """How the page conducts itself: no verdict outlives its input, nothing freezes, phones, GS1, links."""
 from tests.page.damage import turned_to_another
-from tests.page.pictures import chunks, opened, png
-from tests.page.stage import (ACTS, agree, attribute, box, changed, click, expect, fetched, fill, find, fits_across,
-                              grid, is_seen, metrics, on, pointed, processor_time, push, put, run, settle, shown, soon,
-                              started, text_of, unseen, usable, usual_metrics, value_of, visit, wait_for, write,
+from tests.page.pictures import chunks, noise, opened, png
+from tests.page.stage import (ACTS, agree, attribute, box, changed, click, expect, fetched, find, fits_across, grid,
+                              is_seen, metrics, on, pointed, processor_time, push, put, run, settle, shown, soon,
+                              started, text_of, unfold, usable, usual_metrics, value_of, visit, wait_for, write,
                               written)
 
 NOTHING = ("Nothing is read", "")
@@ -30,16 +30,7 @@ def never_stale():
         expect(f"{name}: nothing is damaged", grid(), before)
     write("123456")
     expect("taken again", (verdict(), [usable(it) for it in GIVING]), (("Read", "123456"), [True] * 4))
-    many = "#\n" * 130000
-    with unseen():  # so many lines would be laid out anew with each change of the page
-        fill("a", many)
-        expect("130,000 lines in a slot", text_of("same").startswith("No answer"), True)
-        fill("a", "")
-        push("tab-read", "example-c40")
-        put("grid", many)
-        expect("130,000 lines in the grid", (verdict(), attribute("grid", "aria-invalid")), (NOTHING, "true"))
-        push("example-c40")
-    expect("a grid again", shown()["state"], "Read")
+    push("tab-read", "example-c40")
     put("grid", "")
     expect("no grid, no verdict", verdict(), ("Nothing is entered yet", ""))
     write("123456")
@@ -96,11 +87,18 @@ def a_picture_does_not_win():
     meanwhile("at('tab-make').click(); put('message', 'meanwhile')", ("Read", "meanwhile"))
     expect("a late picture doesn't change the message", verdict(), ("Read", "meanwhile"))
     push("tab-read")
-    expect("it is in its own pane", verdict(), ("Read", "late"))
+    expect("it is in its own pane", (verdict(), is_seen("scene")), (("Read", "late"), True))
+    find("picture").send_keys(str(file))
+    soon("the picture before goes, if that takes long", lambda: is_seen("scene"), False)
+    expect("and how far it is", text_of("picture-hint"), "Looking at late.png…")
+    run("gates.pop()()")
+    settle()
+    expect("until it is read again", (verdict(), is_seen("scene")), (("Read", "late"), True))
 
 
 def names_follow():
     write("123456")
+    unfold("details")
     label = lambda w: find(f"word-{w}").get_attribute("aria-label")
     expect("name of a codeword", label(1), "data codeword 2: 164, the digits 34")
     pointed([1])
@@ -113,17 +111,6 @@ def names_follow():
 
 
 # ---- Nothing freezes
-
-def noise(side):
-    """A picture of noise in squares, with which the search for symbols is long at work."""
-    import random
-
-    chance = random.Random(5)
-    row = lambda: b"\0" + b"".join(bytes([chance.choice((40, 90, 200))]) * 9 for _ in range(side // 9))
-    lines = b"".join(row() * 9 for _ in range(side // 9))
-    side = side // 9 * 9
-    return chunks(side, side, lines)
-
 
 HELD_UP = 4000  # milliseconds, on a busy machine
 
@@ -145,7 +132,7 @@ def nothing_freezes():
            globalThis.watch = new PerformanceObserver((list) => { longest = Math.max(longest, ...lengths(list)); });
            watch.observe({ type: 'longtask' })""")
     file = on.folder / "noise.png"
-    file.write_bytes(noise(6300))
+    file.write_bytes(noise(700, 9))  # in which a search is long at work
     find("picture").send_keys(str(file))
     expect("what runs shows that it runs", bool(wait_for(lambda: is_seen("busy"))), True)
     run(f"{ACTS} at('tab-make').click(); put('message', 'meanwhile')")

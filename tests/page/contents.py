@@ -1,40 +1,26 @@
 """What symbols say beside items, in the page: text of every script, in the smallest symbol, in several symbols that are
 put together as they are read, by the charsets that ECIs name; and any border that is sure."""
-import base64
-import csv
-import io
 import json
 import re
-import zipfile
 
 from tests import corpus
 from tests.library.model import SIZE_OF, codewords, modules_of, padded
 from tests.page.conduct import go, linked
 from tests.page.history import fields
 from tests.page.judge import (SMALLEST, asked_to_read, asked_to_write, in_lines, judged, content_of, line_of_text,
-                              written_in)
-from tests.page.labels import pages_of, saved
-from tests.page.photographs import CAMERA, FOUND
-from tests.page.pictures import opened, png
-from tests.page.stage import (COLLECT, choose, expect, fill, find, fold, grid, head, on, push, put, reload, run, settle,
-                              shown, soon, text_of, texts_of, unfold, unseen, usable, value_of, written)
+                              words_of, written_in)
+from tests.page.labels import archived, pages_of
+from tests.page.photographs import FOUND, camera_on
+from tests.page.pictures import opened, png, scene
+from tests.page.stage import (COLLECT, choose, expect, fill, fold, give, grid, head, press, push, put, reload, run,
+                              saved, settle, shown, soon, table_saved, text_of, texts_of, turned, unfold, unseen,
+                              usable, value_of, written)
 from tests.support import package
 
 
 def type_in(text, kind="typed", form=SMALLEST):
     push("tab-make", f"kind-{kind}", f"profile-{form}")
     put("message", text)
-
-
-def words_of(symbol):
-    return f"{symbol['rows']} × {symbol['columns']}"
-
-
-def as_usual():
-    choose("parts", "1")
-    choose("shape", "square")
-    push("tab-make", "kind-message", "profile-2")
-    put("message", "123456")
 
 
 # ---- The smallest symbol
@@ -162,23 +148,19 @@ def parts_of(text, count_of_them, kind="text"):
     return grids, contents
 
 
-def decoded(contents):
-    """What parts say together, each in the charset of its one mark, or in ASCII."""
-    charset_of = package.imported().charsets.charset_of
-    name = lambda it: charset_of(it["marks"][0]["number"]) if it["marks"] else "ascii"
-    return "".join(bytes(it["items"]).decode(name(it)) for it in contents)
-
-
 def made_in_parts():
     """A message in several symbols: each has its head and its mark, no character is cut, and all together say it; the
     link keeps how many there are and which is shown."""
+    charset_of = package.imported().charsets.charset_of
     for text, many in ((MESSAGE, 2), (MESSAGE, 16), (LATIN, 3), (JAPANESE, 4), ("plain ASCII of some length", 4)):
         grids, contents = parts_of(text, many)
         heads = [it["head"] for it in contents]
         file = heads[0]["file"]
         expect("heads", heads, [{"part": k + 1, "parts": many, "file": file} for k in range(many)])
         expect("numbers of the file", all(1 <= number <= 254 for number in file), True)
-        expect(f"{text[:8]} in {many}", decoded(contents), text)
+        charset = lambda it: charset_of(it["marks"][0]["number"]) if it["marks"] else "ascii"
+        together = "".join(bytes(it["items"]).decode(charset(it)) for it in contents)
+        expect(f"{text[:8]} in {many}", together, text)
         lengths = [len(it["items"]) for it in contents]
         expect("about equal parts", max(lengths) - min(lengths) <= 3, True)
         answers = judged([asked_to_read(it) for it in grids])
@@ -237,11 +219,10 @@ def offered_in_parts():
     type_in("Too long for any rectangle of the first standard, and by far: " * 4, "text")
     expect("too long", shown()["state"], "Nothing is read")
     for _ in range(4):
-        offers = [it for it in on.page.find_elements("css selector", "#message-hint button") if "symbols" in it.text]
+        offers = [words for words in texts_of("#message-hint button") if "symbols" in words]
         if not offers:
             break
-        offers[0].click()
-        settle()
+        press("#message-hint button", offers[0])
     many = int(value_of("parts"))
     expect("it fits in several", (many > 1, shown()["state"]), (True, f"Read, as part 1 of {many}"))
     choose("parts", "2")
@@ -265,13 +246,12 @@ def labels_in_parts():
     answers = judged([asked_to_read(rows) for _, ((*_, rows),), _ in pages])
     expect("their heads", [it["head"]["part"] for it in answers], [1, 2, 1, 2])
     saved("labels.json", "save-list")
-    names = zipfile.ZipFile(io.BytesIO(saved("symbols-svg.zip", "many-svg"))).namelist()
     wanted = [f"00{line}-{part}-of-2-symbol" for line in (1, 2) for part in (1, 2)]
-    expect("names in the archive", [name.rpartition("-")[0] for name in names[:-1]], wanted)
+    expect("names in the archive", [name.rpartition("-")[0] for name in archived("svg")], wanted)
     for parts in ("1", "4"):
         choose("parts", parts)
         put("messages", "")
-        find("lines").send_keys(str(on.folder / "labels.json"))
+        give("lines", "labels.json")
         chosen_now = lambda: value_of("parts")
         soon(f"opened again, after {parts}", chosen_now, "2")
         settle()
@@ -315,8 +295,8 @@ def read_in_parts():
 def found_in_parts(grids):
     """Parts in one picture are put together, and named in the list; what is saved of it has their heads and marks."""
     push("tab-read")
-    lines = side_by_side(grids)
-    opened("parts.png", png(lines, 4, 2))
+    placed = [(text.split("\n"), (20 + 130 * k, 20)) for k, text in enumerate(grids)]
+    opened("parts.png", scene(400, 150, placed))
     card = run(CARD)
     wanted = "A message in 3 symbols: all are read", MESSAGE
     expect("parts in a picture", (card["title"], card["whole"]), wanted)
@@ -324,14 +304,13 @@ def found_in_parts(grids):
     expect("all in the verdict", "All parts are read." in shown()["why"], True)
     named = sorted(re.search(r"part \d of 3", it)[0] for it in remarks)
     expect("named in the list", named, [f"part {k} of 3" for k in (1, 2, 3)])
-    kept = saved("found.json", "found-json").decode()
-    listed = sorted(json.loads(kept)["symbols"], key=lambda it: it["head"])
+    listed = sorted(json.loads(saved("found.json", "found-json"))["symbols"], key=lambda it: it["head"])
     file = judged([asked_to_read(grids[0])])[0]["head"]["file"]
     heads = [[k, 3, *file] for k in (1, 2, 3)]
     expect("heads in JSON", [it["head"] for it in listed], heads)
     said = [(it["marks"], it["charset"], it["identifier"]) for it in listed]
     expect("marks in JSON", said, [([[0, 26]], "utf-8", "]d4")] * 3)
-    table = list(csv.reader(io.StringIO(saved("found.csv", "found-csv").decode("utf-8-sig"))))[1:]
+    table = table_saved()[1:]
     named = sorted(row[2].rsplit("; ", 1)[-1] for row in table)
     expect("parts in CSV", named, [f"part {k} of 3" for k in (1, 2, 3)])
     push("found-copy")
@@ -346,8 +325,7 @@ def parts_by_camera():
     expect("all with one text", len({str(it["items"]) for it in contents}), 1)
     choose("parts", "1")
     push("tab-read")
-    files = [base64.b64encode(png(text.split("\n"), 12, 3)).decode() for text in grids]
-    run(CAMERA, files, False)
+    camera_on(grids)
     run("globalThis.shown = [0, 1]")
     for title in ("2 of them read", "all are read"):
         seen = lambda: (run(CARD) or {}).get("title")
@@ -356,14 +334,6 @@ def parts_by_camera():
     expect("the whole", run(CARD)["whole"], "once " * 4)
     expect("each is listed", len(texts_of(FOUND)), 4)
     run("document.getElementById('camera-off').click(); clearInterval(painter); delete navigator.mediaDevices")
-
-
-def side_by_side(grids):
-    """Grids in one, with light between them."""
-    rows = [text.split("\n") for text in grids]
-    high = max(map(len, rows))
-    padded = [[*lines, *["0" * len(lines[0])] * (high - len(lines))] for lines in rows]
-    return ["000000".join(line) for line in zip(*padded)]
 
 
 def other_content(grids, others):
@@ -425,7 +395,7 @@ def contents_compared():
     push("tab-read")
     unfold("comparison")
     alike = "Their normal grids differ, though both are the same text, with other bytes or ECIs:"
-    part = {"part": 1, "parts": 2, "file": [1, 1]}
+    part, one = {"part": 1, "parts": 2, "file": [1, 1]}, written_in("Rectangle", "8x32")
     differ, same = "No, they say different things.", "Yes, they say the same."
     plain = "Their modules differ, but both have this one normal grid"
     for name, a, b, wanted in (
@@ -435,11 +405,15 @@ def contents_compared():
         ("in two sizes", written_in("\\E{26}abc", "16"), written_in("\\E{26}abc", "8x32"), [same, plain + ":"]),
         ("as text", "\u65e5", written_in("\\E{26}\\xE6\\x97\\xA5", "square"),
          [same, "Both have this one normal grid:"]),
+        ("a square and a rectangle", written_in("Rectangle", "square"), one, [same, plain + ":"]),
+        ("a rectangle on its side", turned(written_in("Rectangle", "16x48"), 1, True, True), one, [same, plain + ":"]),
+        ("two rectangles", written_in("Rectangles", "8x32"), one, [differ, "Their normal grids differ:"]),
     ):
         fill("a", a)
         fill("b", b)
-        settle()
         expect(name, head(), wanted)
+    said = run("return document.querySelector('#slot-b svg').getAttribute('aria-label')")
+    expect("what is said of a symbol", said, "Symbol B, of 8 × 32 modules")
     fill("a", written_in("\\F", "square"))
     size = SIZE_OF[12, 12]
     modules = "".join(map(str, modules_of(size, codewords(size, padded([230, 10, 121, 254], size.data)))))

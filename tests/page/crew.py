@@ -26,6 +26,7 @@ def begin(folder):
     signal.signal(signal.SIGTERM, lambda *_: sys.exit())
     multiprocessing.util.Finalize(None, browser.end, exitpriority=1)
     on.program, on.folder = places.PROGRAM, pathlib.Path(tempfile.mkdtemp(dir=folder))
+    tempfile.tempdir = str(on.folder)  # with which all that this process leaves is gone
 
 
 @contextlib.contextmanager

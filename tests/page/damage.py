@@ -1,12 +1,12 @@
 """Damage: by clicks, drags, a finger, keys and buttons, and at random."""
-import collections
 import random
 import re
 
-from tests.page.stage import (QUIET, SHOWN, By, Keys, acting, agree, as_program, attribute, cells, changed, click,
-                              coloured, drawn, expect, find, focused, grid, is_seen, learn, metrics, offset, on,
-                              pointed, push, put, ran, run, settle, shown, soon, task, text_of, texts_of, to_top, told,
-                              unseen, usable, usual_metrics, value_at, wait_for, write, written)
+from tests.page.judge import how_in, in_lines, judged
+from tests.page.stage import (LOOKED, QUIET, By, Keys, acting, after_each, agree, as_program, attribute, box, cells,
+                              changed, click, coloured, drag, drawn, expect, find, focused, grid, is_seen, learn,
+                              metrics, offset, on, pointed, push, put, run, send, settle, shown, soon, task, text_of,
+                              texts_of, to_top, told, usable, usual_metrics, value_at, wait_for, write, written)
 
 
 def small_symbol():
@@ -115,11 +115,7 @@ def another_message():
 def dragged():
     write("123456")
     learn()
-    chain = acting().move_to_element_with_offset(find("symbol"), *offset(33, 10)).click_and_hold()
-    for cell in (66, 44):
-        chain.move_to_element_with_offset(find("symbol"), *offset(cell, 10))
-    chain.release().perform()
-    settle()
+    drag(33, 66, 44)
     expect("a drag leaves none out, and turns each once", changed(written("123456"), grid()), [33, 44, 55, 66])
     agree("drag")
     push("undo")
@@ -134,27 +130,31 @@ def touched():
     metrics(390, 844, mobile=True)
     on.page.execute_cdp_cmd("Emulation.setTouchEmulationEnabled", {"enabled": True, "maxTouchPoints": 2})
     run("document.getElementById('symbol').scrollIntoView({ block: 'center' })")
-    box = run("const b = document.getElementById('symbol').getBoundingClientRect(); return [b.left, b.top, b.width]")
-    at = lambda cell: {"x": box[0] + (cell % 10 + QUIET + 0.5) * box[2] / 14,
-                       "y": box[1] + (cell // 10 + QUIET + 0.5) * box[2] / 14}
+
+    def at(cell):
+        place = box("symbol")
+        return {"x": place["left"] + (cell % 10 + QUIET + 0.5) * place["width"] / 14,
+                "y": place["top"] + (cell // 10 + QUIET + 0.5) * place["width"] / 14}
+
     turned_over = lambda: changed(written("123456"), grid())
 
-    def send(kind, *points):
+    def finger(kind, *points):
         on.page.execute_cdp_cmd("Input.dispatchTouchEvent", {"type": kind, "touchPoints": list(points)})
 
-    def touch(first, *others):
-        send("touchStart", at(first))
-        for cell in others:
-            send("touchMove", at(cell))
-        send("touchEnd")
+    def touch(*cells):
+        first, *others = map(at, cells)
+        finger("touchStart", first)
+        for place in others:
+            finger("touchMove", place)
+        finger("touchEnd")
 
     def pinch():
         middle = at(44)
         fingers = lambda apart: [{**middle, "x": middle["x"] + side * apart, "id": side} for side in (-1, 1)]
-        send("touchStart", *fingers(20))
+        finger("touchStart", *fingers(20))
         for apart in range(28, 100, 8):
-            send("touchMove", *fingers(apart))
-        send("touchEnd")
+            finger("touchMove", *fingers(apart))
+        finger("touchEnd")
 
     tried_until(lambda: touch(33), turned_over)
     settle()
@@ -167,13 +167,11 @@ def touched():
     expect("a swipe scrolls and turns nothing over", (turned_over(), run("return scrollY") > before + 20), ([], True))
     zoomed = lambda: run("return visualViewport.scale") > 1.5
     to_top()
-    box = run("const b = document.getElementById('symbol').getBoundingClientRect(); return [b.left, b.top, b.width]")
     tried_until(pinch, zoomed)
     settle()
     expect("a pinch zooms and turns nothing over", (zoomed(), turned_over()), (True, []))
     on.page.execute_cdp_cmd("Emulation.setPageScaleFactor", {"pageScaleFactor": 1})
     push("tab-make")
-    box = run("const b = document.getElementById('symbol').getBoundingClientRect(); return [b.left, b.top, b.width]")
     tried_until(lambda: touch(33), turned_over, seconds=1)
     expect("elsewhere a tap does nothing", turned_over(), [])
     on.page.execute_cdp_cmd("Emulation.setTouchEmulationEnabled", {"enabled": False})
@@ -198,31 +196,26 @@ def by_keys():
             break
         on.page.switch_to.active_element.send_keys(Keys.TAB)
     expect("symbol by Tab", focused(), "symbol")
-
-    def keys(*some):
-        on.page.switch_to.active_element.send_keys(*some)
-        settle()
-
-    keys(Keys.HOME, Keys.PAGE_UP, Keys.ARROW_DOWN, Keys.ARROW_RIGHT, Keys.SPACE)
+    send(Keys.HOME, Keys.PAGE_UP, Keys.ARROW_DOWN, Keys.ARROW_RIGHT, Keys.SPACE)
     expect("a key turns over", changed(written("123456"), grid()), [11])
     soon("what is spoken", lambda: text_of("spoken"), "Row 2, column 2: light, codeword 2, bit 1, wrong")
     soon("codeword at the cursor", lambda: text_of("about"),
          "Codeword 2 of 8: data. It is 36, 00100100, and is corrected to 164, 10100100. It stands for the digits 34.")
-    keys(Keys.HOME, Keys.ARROW_LEFT, Keys.ENTER)
+    send(Keys.HOME, Keys.ARROW_LEFT, Keys.ENTER)
     expect("the cursor goes round to the right", changed(written("123456"), grid()), [11, 19])
-    keys(Keys.PAGE_UP, Keys.ARROW_UP, Keys.ENTER)
+    send(Keys.PAGE_UP, Keys.ARROW_UP, Keys.ENTER)
     expect("the cursor goes round to the bottom", changed(written("123456"), grid()), [11, 19, 99])
-    keys(Keys.CONTROL, "z", "z", Keys.NULL)
+    send(Keys.CONTROL, "z", "z", Keys.NULL)
     expect("undone by keys", changed(written("123456"), grid()), [11])
-    keys(Keys.ESCAPE)
+    send(Keys.ESCAPE)
     expect("left by Escape", focused() == "symbol", False)
     find("words").send_keys(Keys.HOME, Keys.ARROW_RIGHT, Keys.ARROW_RIGHT)
     expect("codewords by keys", (text_of("about"), attribute("words", "aria-activedescendant")),
            ("Codeword 3 of 8: data. It is 186, 10111010. It stands for the digits 56.", "word-2"))
     for key, tab in ((Keys.ARROW_LEFT, "make"), (Keys.ARROW_LEFT, "read"), (Keys.ARROW_LEFT, "learn"),
                      (Keys.ARROW_RIGHT, "read")):
-        on.page.execute_script("document.getElementById(arguments[0]).focus()", f"tab-{task()}")
-        on.page.switch_to.active_element.send_keys(key)
+        run("document.getElementById(arguments[0]).focus()", f"tab-{task()}")
+        send(key)
         panes = [is_seen(f"pane-{each}") for each in ("read", "make", "learn")]
         expect(f"{tab} by keys", (task(), panes), (tab, [tab == each for each in ("read", "make", "learn")]))
 
@@ -278,78 +271,30 @@ def blocks():
         push("undo")
 
 
-def sizes():
-    """Each size by its pixels; damage at the limit, past it and across, by the buttons."""
-    for side, _, _, _, data, check, parts, limit in [map(int, line.split()) for line in ran("table", "").splitlines()]:
-        text = "".join(random.choice("ABCDEFGHIJKLMNOPQRSTUVWXYZ") for _ in range(data))
-        write(text)
-        expect(f"side {side} by its pixels", drawn(side), written(text))
-        expect(f"side {side} isn't coloured", coloured(), [])
-        push("to-limit")
-        agree(f"side {side} at the limit")
-        expect(f"side {side} at the limit, by the meters", shown()["meters"][:-1], [f"{limit} wrong, {limit}"] * parts)
-        if side <= 72:  # in larger ones a module is too small to have a corner without a cross
-            expect(f"side {side} damaged, by its pixels", drawn(side), grid())
-        push("one-more")
-        agree(f"side {side} past the limit")
-        if shown()["state"] == "Refused":  # one block is beyond, and the others at the limit
-            kinds = collections.Counter(word for _, _, kind in cells() for word in kind.split())
-            expect(f"side {side} coloured", (kinds["beyond"], kinds["corrected"], kinds["check"]),
-                   ((data + check) // parts, limit * (parts - 1), check))
-        push("undo")
-        expect(f"side {side}, one more undone", shown()["meters"][:-1], [f"{limit} wrong, {limit}"] * parts)
-        push("undo-all", "scratch")
-        agree(f"side {side} scratched")
-        facts = texts_of("#facts dd")
-        identifier = [] if shown()["state"] == "Refused" else ["]d1"]  # (a scratch may be more than can be corrected)
-        expect(f"side {side}, facts", facts, [f"{side} × {side}", str(data), str(check), str(limit), *identifier])
-
-
-MUCH_DAMAGE = ("""
-    const [done] = arguments, { desks, gridText, idle, spelled } = mitsubadoor, out = [];
-    const any = (below) => Math.floor(chance() * below), area = document.getElementById("grid");
-    const shown = () => { %s };
-    let seed = 1;
-    const chance = () => {
-        seed = (seed + 0x6d2b79f5) | 0;
-        let mixed = Math.imul(seed ^ (seed >>> 15), seed | 1);
-        mixed ^= mixed + Math.imul(mixed ^ (mixed >>> 7), mixed | 61);
-        return ((mixed ^ (mixed >>> 14)) >>> 0) / 2 ** 32;
-    };
-    (async () => {
-        while (out.length < 600) {
-            const k = out.length, length = k %% 20 ? 1 + any(60) : 200 + any(500), wide = any(2) ? 256 : 128;
-            const items = Array.from({ length }, () => (chance() < 0.02 ? 256 : any(wide)));
-            const how = { form: k %% 2, shape: 0, rows: 0, columns: 0 }, ways = [[{ items, marks: [], head: null }]];
-            const { fault, modules, rows, columns } =
-                await desks.quick.ask("write", { ways, how, hasLook: false }, "test");
-            if (fault || rows > 104) continue; // the program reads no larger ones
-            for (let turns = any(rows * (k %% 20 ? 0.9 : 1.5)); turns; turns--) modules[any(modules.length)] ^= 1;
-            area.value = gridText({ modules, rows, columns });
-            area.dispatchEvent(new Event("input"));
-            await idle();
-            if (mitsubadoor.mark.limit === "auto") { // which the program hasn't
-                document.getElementById("usual").click();
-                await idle();
-            }
-            const { seen } = mitsubadoor.mark;
-            const standsFor = seen.answer.fault ? null : spelled(seen.told.flatMap((it) => it.items));
-            out.push([area.value, shown(), standsFor]);
-        }
-        done(out);
-    })();""" % SHOWN)
+def spoilt_at_random(chance, k, symbol):
+    """The grid of a symbol of which modules are turned over: as many as can be corrected, more, or none."""
+    modules = list(symbol["text"])
+    for _ in range(int(chance.random() * symbol["rows"] * (0.9 if k % 20 else 1.5))):
+        at = chance.randrange(len(modules))
+        modules[at] = "10"[int(modules[at])]
+    return in_lines({**symbol, "text": "".join(modules)})
 
 
 def much_damage():
     """Grids that are turned over at random and pasted, as they are shown and as the program answers."""
+    chance, contents = random.Random(1), []
+    for k in range(650):
+        most, length = chance.choice((128, 256)), chance.randint(*((1, 60) if k % 20 else (200, 700)))
+        items = [256 if chance.random() < 0.02 else chance.randrange(most) for _ in range(length)]
+        contents.append({"items": items, "marks": [], "head": None})
+    symbols = judged([{"content": it, "how": how_in("square", k % 2)} for k, it in enumerate(contents)])
+    grids = [spoilt_at_random(chance, k, it) for k, it in enumerate(symbols) if it.get("rows", 144) <= 104][:600]
     push("tab-read")
-    with unseen():
-        some = on.page.execute_async_script(MUCH_DAMAGE)
-    answers = told([text for text, _, _ in some])
-    got = [as_program(seen) for _, seen, _ in some]
-    odd = [(text, ours, theirs) for (text, _, _), ours, theirs in zip(some, got, answers) if ours != theirs]
-    expect("600 damaged grids", odd[:1], [])
-    expect("what their codewords stand for", [stands for _, _, stands in some if stands is not None],
+    seen, answers = after_each("grid", grids, LOOKED), told(grids)
+    odd = [(text, ours, theirs) for text, (shown_there, *_), theirs in zip(grids, seen, answers)
+           if (ours := as_program(shown_there)) != theirs]
+    expect(f"{len(grids)} damaged grids", (odd[:1], len(grids)), ([], 600))
+    expect("what their codewords stand for", [stands for _, stands, _ in seen if stands is not None],
            [read for read, _ in answers if not read.startswith("refused")])
     reads = sum(not read.startswith("refused") for read, _ in answers)
     expect("some are read and some refused", 100 < reads < 500, True)

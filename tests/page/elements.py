@@ -4,8 +4,9 @@ import random
 import re
 
 from tests import corpus
-from tests.page.stage import (By, expect, find, grid, line_of, on, push, rules, settle, shown, text_of, unseen,
-                              value_of, write, written)
+from tests.page.stage import after_each, expect, grid, line_of, press, push, shown, text_of, value_of, write, written
+from tests.support import package
+
 
 NOTHING = "Nothing is read"
 
@@ -34,8 +35,7 @@ def misjoined():
     ):
         write(text)
         expect(f"{text} is said", (shown()["state"], text_of("message-hint").startswith(why)), (NOTHING, True))
-        find("message-hint").find_element(By.TAG_NAME, "button").click()
-        settle()
+        press("#message-hint button")
         line = line_of(plain) if plain.startswith("(") else plain
         expect(f"{text} respelled", (value_of("message"), grid(), shown()["state"].split(",")[0]),
                (plain, written(line), "Read"))
@@ -95,30 +95,18 @@ class Strings:
 # What isn't plain text to the page, which in square brackets also takes a bracket that is escaped.
 LIKE_ELEMENTS = re.compile(r"\(|\[\d+\][^\\]*$")
 TAKEN = """
-    const [texts, done] = arguments, area = document.getElementById("message"), out = [];
-    (async () => {
-        for (const text of texts) {
-            area.value = text;
-            area.dispatchEvent(new Event("input", { bubbles: true }));
-            await mitsubadoor.idle();
-            const isGreen = document.getElementById("verdict").className.includes("good");
-            const state = document.getElementById("state").textContent.replace(/^Made/, "Read");
-            out.push([isGreen, state, isGreen ? mitsubadoor.gridText(mitsubadoor.mark).trim() : null]);
-        }
-        done(out);
-    })();"""
+    const isGreen = at("verdict").className.includes("good"), state = at("state").textContent.replace(/^Made/, "Read");
+    return [isGreen, state, isGreen ? mitsubadoor.gridText(mitsubadoor.mark).trim() : null];"""
 
 
 def as_the_library_says():
-    gs1 = rules()
+    gs1 = package.imported().gs1
     maker = Strings(3, gs1)
     known = [text for text, _ in corpus.rows("elements") if LIKE_ELEMENTS.match(text)]
     texts = [*known, *(maker.right() for _ in range(150)), *(maker.faulty() for _ in range(250))]
     push("profile-0")
-    with unseen():
-        taken = on.page.execute_async_script(TAKEN, texts)
     accepted = 0
-    for text, (is_green, state, symbol) in zip(texts, taken):
+    for text, (is_green, state, symbol) in zip(texts, after_each("message", texts, TAKEN)):
         try:
             line = "".join("\\F" if item == 256 else chr(item) for item in gs1.items(gs1.parse(text)))
             accepted += 1

@@ -1,11 +1,11 @@
 """What goes on for long: 2,000 acts leave nothing behind, and a page that is out of sight does nothing."""
-import random
 import time
 
 from tests.page.bounds import drop
-from tests.page.photographs import SLOW_CAMERA
-from tests.page.pictures import png
-from tests.page.stage import ACTS, expect, is_seen, learn, on, push, run, settle, unfold, wait_for, write, written
+from tests.page.photographs import camera_on
+from tests.page.pictures import noise
+from tests.page.stage import (ACTS, expect, is_seen, learn, on, performance, push, run, settle, unfold, wait_for, write,
+                              written)
 
 MANY, BEFORE = 2000, 200  # the first ones fill what is kept of each size of symbol
 GROWTH = {"Nodes": 100, "JSEventListeners": 10, "JSHeapUsedSize": 1 << 20}
@@ -38,12 +38,10 @@ def measured():
     write("123456")
     push("tab-make")
     on.page.execute_cdp_cmd("HeapProfiler.collectGarbage", {})
-    metrics = on.page.execute_cdp_cmd("Performance.getMetrics", {})["metrics"]
-    return {each["name"]: each["value"] for each in metrics if each["name"] in GROWTH}
+    return {name: value for name, value in performance().items() if name in GROWTH}
 
 
 def without_growth():
-    on.page.execute_cdp_cmd("Performance.enable", {})
     learn()
     unfold("lesson", "details")
     acts = lambda some: on.page.execute_async_script(DONE, some, written("Mitsubadoor"))
@@ -82,20 +80,15 @@ WATCHED = 1.5  # seconds
 def begin_camera():
     asked = lambda: run("return mitsubadoor.desks.pictures.count")
     before = asked()
-    run(SLOW_CAMERA)
-    run("document.getElementById('camera').click(); for (const each of allowed.splice(0)) each()")
+    camera_on()
     wait_for(lambda: is_seen("viewfinder") and asked() > before)
     run("clearInterval(painter)")
-
-
-def begin_picture():
-    noise = ["".join(random.choice("01") for _ in range(40)) for _ in range(40)]
-    drop("body", [("noise.png", "image/png", png(noise, 6, 2))])
 
 
 def out_of_sight():
     """Nothing runs on behind another tab of the browser, but a picture that is being looked at, until that is done."""
     push("tab-read", "example-c40")
+    begin_picture = lambda: drop("body", [("noise.png", "image/png", noise(40, 6))])
     for name, begin in (("the camera", begin_camera), ("a picture", begin_picture)):
         begin()
         run("""Object.defineProperty(document, 'hidden', { configurable: true, value: true });

@@ -18,22 +18,16 @@ function chanceFrom(seed) {
   return (below) => { state = (Math.imul(state, 1103515245) + 12345) & 0x7fffffff; return (state >>> 8) % below; };
 }
 const KINDS = {
-  noise: (chance) => () => chance(256),
-  grey: () => () => 200,
-  stripes: (chance) => { const each = 1 + chance(9); return (x) => 255 * (Math.floor(x / each) & 1); },
-  squares: (chance) => {
-    const each = 1 + chance(9);
-    return (x, y) => 255 * ((Math.floor(x / each) ^ Math.floor(y / each)) & 1);
-  },
-  weave: (chance) => {
-    const each = 1 + chance(9);
-    const woven = (a, b) => (a * 7 + b * 13 + ((a * b) >> 2)) % 3;
-    return (x, y) => (woven(Math.floor(x / each), Math.floor(y / each)) ? 255 : 0);
-  },
+  noise: (_across, _down, chance) => chance(256),
+  grey: () => 200,
+  stripes: (across) => 255 * (across & 1),
+  squares: (across, down) => 255 * ((across ^ down) & 1),
+  weave: (across, down) => ((across * 7 + down * 13 + ((across * down) >> 2)) % 3 ? 255 : 0),
 };
 function pictureOf({ width, height, kind, seed = 1 }) {
-  const value = KINDS[kind](chanceFrom(seed)), data = new Uint8Array(width * height);
-  for (let k = 0; k < data.length; k++) data[k] = value(k % width, Math.floor(k / width));
+  const chance = chanceFrom(seed), each = 1 + chance(9), data = new Uint8Array(width * height);
+  const at = (place) => Math.floor(place / each);
+  for (let k = 0; k < data.length; k++) data[k] = KINDS[kind](at(k % width), at(Math.floor(k / width)), chance);
   return { width, height, data };
 }
 const plain = ({ modules, doubtful, ...symbol }) =>

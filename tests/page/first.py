@@ -1,11 +1,9 @@
 """What is shown first, by what one wants to do; one main button; plain words; and what keys and fields take."""
 from tests.page.conduct import linked
-from tests.page.labels import saved
 from tests.page.paper import paper_is
-from tests.page.pictures import opened
-from tests.page.sights import scene
-from tests.page.stage import (Keys, expect, find, grid, is_seen, on, push, put, reload, run, settle, shown, soon,
-                              started, text_of, unfold, value_of, visit, write, written)
+from tests.page.pictures import opened, scene
+from tests.page.stage import (Keys, expect, find, focused, grid, is_seen, on, push, put, reload, run, saved, settle,
+                              shown, soon, started, text_of, unfold, value_of, visit, write, written)
 
 SEEN = "return [...document.querySelectorAll(arguments[0])].filter((it) => it.checkVisibility()).map((it) => it.id)"
 
@@ -78,8 +76,7 @@ def small_things():
     expect("a comma", text_of("print-size").split(" with")[0], "4.2 × 4.2 mm")
     paper_is("a4", "0.5")
     find("message").send_keys("7", Keys.ENTER)
-    active = lambda: run("return document.activeElement.id")
-    expect("Enter leads to what comes next", (active(), value_of("message")), ("save-png", "1234567"))
+    expect("Enter leads to what comes next", (focused(), value_of("message")), ("save-png", "1234567"))
     push("kind-typed")
     find("message").send_keys(Keys.SHIFT, Keys.ENTER, Keys.NULL, "8")
     settle()
@@ -87,10 +84,10 @@ def small_things():
     write("123456")
     find("tab-make").send_keys(Keys.END)
     settle()
-    expect("End", active(), "tab-learn")
+    expect("End", focused(), "tab-learn")
     find("tab-learn").send_keys(Keys.HOME)
     settle()
-    expect("Home", (active(), is_seen("pane-read")), ("tab-read", True))
+    expect("Home", (focused(), is_seen("pane-read")), ("tab-read", True))
     put("grid", "")
     expect("nothing to scroll is no stop", run("return document.getElementById('says').tabIndex"), -1)
     push("tab-make")

@@ -1,35 +1,27 @@
 """What is taken away and what is brought: saved, copied, printed, dropped and pasted."""
 import base64
-import re
 
 from tests.page.bounds import drop
 from tests.page.conduct import verdict
+from tests.page.paper import printed
 from tests.page.pictures import png
 from tests.page.stage import (COLLECT, By, Keys, area_of, attribute, click, expect, find, grid, is_seen, on, push, put,
-                              run, settle, soon, text_of, unfold, value_of, wait_for, write, written)
-
-
-def saved_as(name, button):
-    file = on.folder / name
-    file.unlink(missing_ok=True)
-    push(button)
-    wait_for(lambda: file.exists() and file.read_text().endswith("</svg>\n"))
-    return file.read_text() if file.exists() else None
+                              run, saved, settle, soon, text_of, unfold, value_of, wait_for, write, written)
 
 
 def gives_what_it_says():
     write("123456")
-    clean = saved_as("symbol-10.svg", "save-svg")
+    clean = saved("symbol-10.svg", "save-svg")
     expect("no choice without damage", is_seen("which"), False)
     click(33, 44)
-    expect("the undamaged one by default", saved_as("symbol-10.svg", "save-svg"), clean)
+    expect("the undamaged one by default", saved("symbol-10.svg", "save-svg"), clean)
     run(COLLECT)
     push("copy")
     expect("copied undamaged", (run("return copied.pop()").strip(), wait_for(lambda: text_of("toast"))),
            (written("123456"), "Copied: the symbol, a line for each row"))
     push("which-damaged")
-    damaged = saved_as("symbol-10-damaged.svg", "save-svg")
-    expect("the damaged one by its own choice", (damaged is not None, damaged != clean), (True, True))
+    damaged = saved("symbol-10-damaged.svg", "save-svg")
+    expect("the damaged one by its own choice", (damaged[-7:], damaged != clean), (b"</svg>\n", True))
     push("copy")
     expect("copied damaged", (run("return copied.pop()").strip(), text_of("toast")),
            (grid(), "Copied: the damaged symbol, a line for each row"))
@@ -47,18 +39,13 @@ def gives_what_it_says():
 
 # ---- Print
 
-def pages():
-    body = base64.b64decode(on.page.execute_cdp_cmd("Page.printToPDF", {"preferCSSPageSize": True})["data"])
-    return len(re.findall(rb"/Type\s*/Page\b(?!s)", body))
-
-
 def print_():
     run("globalThis.printed = 0; window.print = () => { printed++; }")
     write("123456")
     put("millimetres", "1")
     push("print")
     expect("printing is asked for", run("return printed"), 1)
-    expect("one page", pages(), 1)
+    expect("one page", len(printed()[0]), 1)
     text, (width, seen) = text_of("paper"), run("""const svg = document.querySelector('#paper svg');
            return [svg.getAttribute('width'), svg.innerHTML]""")
     expect("at its size with its text", (width, "123456" in text, "10 × 10 modules of 1 mm" in text),
@@ -71,7 +58,7 @@ def print_():
            round(run("return document.querySelector('#paper svg').getBoundingClientRect().width") / 96 * 25.4, 1), 14.0)
     on.page.execute_cdp_cmd("Emulation.setEmulatedMedia", {"media": ""})
     click(33)
-    pages()
+    printed()
     expect("the undamaged one is printed", run("return document.querySelector('#paper svg').innerHTML"), seen)
     push("undo-all")
     unfold("sheet")
@@ -82,10 +69,6 @@ def print_():
     expect("a sheet", sheet, [["16", "first"], ["20", "(01)09506000134352"], ["16", "third"]])
     expect("printing of the sheet is asked for", (run("return printed"), text_of("sheet-hint")),
            (2, "3 symbols are on the sheet."))
-    put("messages", "fine\ncaf\u00e9")
-    push("print-sheet")
-    expect("a wrong line of a sheet", (run("return printed"), text_of("sheet-hint")),
-           (2, "Message 2: column 4 is \u00e9, which has no spelling of its own"))
 
 
 def dropped():

@@ -6,10 +6,10 @@ from tests.page.stage import (ACTS, COLLECT, Keys, agree, attribute, click, expe
                               put, reload, run, shown, soon, text_of, value_of, visit, write, written)
 
 
-def fields():
-    """What is kept with this entry of the history."""
-    kept = run("return mitsubadoor.linkKept()").partition("#")[2]
-    return {name: values[0] for name, values in urllib.parse.parse_qs(kept, keep_blank_values=True).items()}
+def fields(link=None):
+    """What a link says, or what is kept with this entry of the history."""
+    said = (link or run("return mitsubadoor.linkKept()")).partition("#")[2]
+    return {name: values[0] for name, values in urllib.parse.parse_qs(said, keep_blank_values=True).items()}
 
 
 def skipped():

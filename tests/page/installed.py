@@ -8,7 +8,7 @@ import tempfile
 import threading
 import urllib.parse
 
-from tests.page.stage import expect, grid, on, push, put, run, settle, shown, soon, wait_for, written
+from tests.page.stage import expect, grid, on, push, put, run, shown, soon, visit, written
 
 LATER = "Later: "
 OWN = {"/mitsubadoor.html", "/mitsubadoor.webmanifest", "/offline.js"}
@@ -51,13 +51,6 @@ def served(folder, port=0):
         thread.join()
 
 
-def opened_at(address):
-    on.page.get("about:blank")
-    on.page.get(address)
-    wait_for(lambda: run("return 'mitsubadoor' in globalThis"))
-    settle()
-
-
 def made_and_read(message):
     """Whether the page makes a symbol of a message and reads one."""
     push("tab-make", "kind-message", "profile-0")
@@ -72,7 +65,7 @@ def installed():
     folder = folder_of_page(*on.beside.iterdir())
     page = folder / "mitsubadoor.html"
     with served(folder) as (server, address):
-        opened_at(address)
+        visit(address, False)
         soon("what keeps it", lambda: run("return navigator.serviceWorker.controller !== null"), True)
         manifest = on.page.execute_cdp_cmd("Page.getAppManifest", {})
         errors = on.page.execute_cdp_cmd("Page.getInstallabilityErrors", {})["installabilityErrors"]
@@ -80,15 +73,15 @@ def installed():
         expect("the manifest", (manifest["url"].rpartition("/")[2], manifest["errors"], wrong),
                ("mitsubadoor.webmanifest", [], []))
         made_and_read("with a network")
-    opened_at(f"{address}?shared#make")
+    visit(f"{address}?shared#make", False)
     made_and_read("without a network")
     page.write_text(page.read_text("utf-8").replace("<title>", f"<title>{LATER}"), "utf-8")
     with served(folder, server.server_port) as (again, _):
-        opened_at(f"{address}?later")
+        visit(f"{address}?later", False)
         made_and_read("once more")
         expect("a later page on the server", on.page.title.startswith(LATER), True)
     expect("what is asked of the server", {*server.asked, *again.asked} - OWN, set())
-    opened_at(address)
+    visit(address, False)
     expect("the page that came last", on.page.title.startswith(LATER), True)
     on.page.execute_async_script("""const [done] = arguments;
            navigator.serviceWorker.getRegistrations()
@@ -99,7 +92,7 @@ def installed():
 def beside_nothing():
     """Where the files beside it aren't served, the page is as it is from disk."""
     with served(folder_of_page()) as (_, address):
-        opened_at(address)
+        visit(address, False)
         made_and_read("alone")
     on.page.get_log("browser")  # which tells of what isn't there
 

@@ -4,7 +4,7 @@ import json
 import subprocess
 
 from tests import corpus
-from tests.page.stage import flat
+from tests.page.stage import flat, spelled
 from tests.support import package, places
 
 JUDGE = ["node", places.path("tests", "page", "judge.mjs"), places.path("web", "out", "lowered.wasm")]
@@ -32,19 +32,7 @@ def content_of(line, head=None):
 def line_of_text(text):
     """The line of a text, as Python writes it in the smallest square."""
     data, marks = package.imported().charsets.content_of(text)
-    return "".join(f"\\E{{{number}}}" for _, number in marks) + line_of_items(data)
-
-
-def items_of(line):
-    """The items of a line as the program spells them."""
-    return list(corpus.content_of(line)[0])
-
-
-def line_of_items(items):
-    """Items as the program spells them."""
-    plain = lambda item: 32 <= item <= 126 and item != 92
-    special = {92: "\\\\", 256: "\\F"}
-    return "".join(chr(item) if plain(item) else special.get(item) or f"\\x{item:02X}" for item in items)
+    return "".join(f"\\E{{{number}}}" for _, number in marks) + spelled(data)
 
 
 def how_in(size, profile=0):
@@ -72,6 +60,17 @@ def written_in(line, size, profile=0, head=None):
     """The grid of a content in a size, or why there is none."""
     (symbol,) = judged([asked_to_write(line, size, profile, head)])
     return symbol.get("fault") or in_lines(symbol)
+
+
+def name_of(text):
+    """The name of a grid's size."""
+    rows = text.split("\n")
+    return str(len(rows)) if len(rows) == len(rows[0]) else f"{len(rows)}x{len(rows[0])}"
+
+
+def words_of(symbol):
+    """The size of a symbol, or of one of the table, as the page says it."""
+    return f"{symbol['rows']} × {symbol['columns']}"
 
 
 @functools.cache

@@ -1,20 +1,20 @@
 """Work is kept in the browser's storage: lists, settings, what was read, and parts survive a reload and another visit,
 until they are forgotten; and no message stands in the address, but for a link that was copied."""
 from tests.page.conduct import linked
-from tests.page.labels import CHOOSE, pages_of, saved
+from tests.page.contents import parts_of
+from tests.page.labels import answer, pages_of
 from tests.page.photographs import FOUND
-from tests.page.pictures import opened
-from tests.page.sights import scene
-from tests.page.stage import (COLLECT, choose, expect, find, grid, is_seen, on, press, push, put, reload, run, shown,
-                              soon, started, text_of, texts_of, unfold, value_of, visit, wait_for, write, written)
+from tests.page.pictures import opened, scene
+from tests.page.stage import (COLLECT, choose, expect, find, grid, is_seen, on, press, push, put, reload, run, saved,
+                              shown, soon, started, text_of, texts_of, unfold, value_of, visit, wait_for, write,
+                              written)
 
 FIELDS = ["message", "lines-as", "messages", "stock", "millimetres", "paper-size", "label-width", "copies", "shape"]
-STATE = "return arguments[0].map((id) => document.getElementById(id).value)"
 KEPT = "return Object.keys(localStorage).map((name) => localStorage.getItem(name)).join(' ')"
 
 
 def state():
-    return run(STATE, FIELDS), [find(f"profile-{k}").is_selected() for k in range(3)]
+    return list(map(value_of, FIELDS)), [find(f"profile-{k}").is_selected() for k in range(3)]
 
 
 def work_survives():
@@ -23,10 +23,7 @@ def work_survives():
     unfold("sheet")
     choose("lines-as", "csv")
     put("messages", "place,part\nleft,A1\nright,B2")
-    push("first-headings")
-    for column, role in ((0, "text"), (1, "message")):
-        run(CHOOSE, column, role)
-    push("columns-taken")
+    answer("headings", {0: "text", 1: "message"})
     choose("stock", "own")
     for name, value in (("label-width", "44.5"), ("millimetres", "0.4"), ("copies", "2")):
         put(name, value)
@@ -58,30 +55,19 @@ def work_survives():
 
 def parts_survive():
     """Parts that were read are still there after a reload."""
+    grids, _ = parts_of("one and two and three", 3, "typed")
+    choose("parts", "1")
     push("tab-read")
-    for part in (1, 3):
-        put("grid", written_part(part))
+    for k in (0, 2):
+        put("grid", grids[k])
     linked()
     wait_for(lambda: "parts" in run("return Object.keys(localStorage).join()"))
     title = text_of("gathered-title")
     expect("parts that are read", title, "A message in 3 symbols: 2 of them read")
     reload()
     expect("after a reload", text_of("gathered-title"), title)
-    put("grid", written_part(2))
+    put("grid", grids[1])
     expect("the last one makes the message", text_of("whole"), "one and two and three")
-
-
-def written_part(part):
-    """The grid of a part of a message."""
-    push("tab-make", "kind-typed", "profile-2")
-    choose("parts", "3")
-    put("message", "one and two and three")
-    for _ in range(part - 1):
-        push("part-on")
-    text = run("return mitsubadoor.gridText(mitsubadoor.mark.seen)")
-    choose("parts", "1")
-    push("tab-read")
-    return text
 
 
 def address_is_bare():

@@ -1,5 +1,6 @@
 """Labels: many symbols on stock sizes, measured in the PDF that is saved and in the one that is printed; CSV with one
 column a field; and files of many symbols in one archive."""
+import base64
 import io
 import json
 import re
@@ -8,25 +9,12 @@ import xml.etree.ElementTree
 import zipfile
 import zlib
 
+from tests.page.judge import name_of, written_in
 from tests.page.paper import POINT, paper_is, printed
 from tests.page.pictures import opened
-from tests.page.stage import (choose, do, drawn_rows, expect, find, give, grid, is_seen, on, push, put, run, shown,
-                              soon, spelled, task, text_of, texts_of, unfold, usable, value_of, wait_for, write,
+from tests.page.stage import (choose, do, drawn_rows, expect, find, give, grid, is_seen, on, push, put, run, saved,
+                              shown, soon, spelled, task, text_of, texts_of, unfold, usable, value_of, wait_for, write,
                               written)
-
-
-def saved(name, button):
-    """The file that a button saves, once it has stopped growing."""
-    file, sizes = on.folder / name, [0]
-    file.unlink(missing_ok=True)
-    push(button)
-
-    def is_whole():
-        sizes.append(file.stat().st_size if file.exists() else 0)
-        return 0 < sizes[-1] == sizes[-2]
-
-    wait_for(is_whole)
-    return file.read_bytes() if file.exists() else b""
 
 
 def pages_of(pdf):
@@ -77,16 +65,12 @@ def texts_in(stream, letters):
 SIZES, WIDTH, LINE = (2.4, 2.1, 1.8, 1.5), 1233 / 2048, 1.25
 
 
-def height_below(text, width):
-    """The millimetres below a symbol of a text that has room in one line, with the largest letters that have."""
-    return next(LINE * size for size in SIZES if len(text) * WIDTH * size <= width)
-
-
-def centred(label, side, module, has_text):
+def centred(label, text, module, has_text):
     """Where a symbol has to stand on a label at this place."""
     x, y, width, height = label
-    length, below = (side + 4) * module, 3 if has_text else 0
-    return [round(x + (width - length) / 2 + 2 * module, 2), round(y + (height - length - below) / 2 + 2 * module, 2)]
+    across, down, below = text.index("\n") + 4, text.count("\n") + 5, 3 if has_text else 0
+    return [round(x + (width - across * module) / 2 + 2 * module, 2),
+            round(y + (height - down * module - below) / 2 + 2 * module, 2)]
 
 
 def labels_of(columns, rows, width, height, across, page=(210, 297)):
@@ -129,21 +113,27 @@ def emptied():
         file.unlink()
 
 
+RECTANGLES = ["one", "Rectangle 2", "3333333333", "rectangle"]
+
+
 def on_labels():
-    """On each stock size each symbol stands in the middle of its label, has its size and is what the program writes."""
+    """On each stock size each symbol stands in the middle of its label, has its size and is what the program writes;
+    and so do rectangles."""
     begin()
-    for name, labels in STOCK.items():
+    for name, labels, shape in (*((name, labels, "square") for name, labels in STOCK.items()),
+                                ("50x30", STOCK["50x30"], "rectangle")):
+        choose("shape", shape)
         choose("stock", name)
-        messages = [f"label {k}" for k in range(len(labels) + 2)]
+        messages = RECTANGLES if shape == "rectangle" else [f"label {k}" for k in range(len(labels) + 2)]
         put("messages", "\n".join(messages))
         pages, grids, texts = in_pdf()
         page = [210, 297] if len(labels) > 1 else list(labels[0][2:])
         expect(f"{name}: pages", [size for size, _, _ in pages], [page] * -(-len(messages) // len(labels)))
         symbols = [symbol for _, some, _ in pages for symbol in some]
-        wanted = [written(message) for message in messages]
+        wanted = [written_in(each, shape) if shape == "rectangle" else written(each) for each in messages]
         expect(f"{name}: symbols", grids, wanted)
         expect(f"{name}: modules", {round(module, 3) for _, _, module, _ in symbols}, {0.4})
-        places = [centred(labels[k % len(labels)], text.index("\n"), 0.4, True) for k, text in enumerate(wanted)]
+        places = [centred(labels[k % len(labels)], text, 0.4, True) for k, text in enumerate(wanted)]
         expect(f"{name}: places", [[round(x, 2), round(y, 2)] for x, y, _, _ in symbols], places)
         expect(f"{name}: texts", texts, messages)
         said = (text_of("sheet-hint"), is_seen("own-size"))
@@ -165,7 +155,7 @@ def labels_printed():
         off = [round(abs(width - wanted), 2) for width, wanted in zip(widths, (across, 5))]
         expect(f"{name}: printed millimetres", (len(widths), [each for each in off if each > 0.1]), (2, []))
         place = run("return ['x', 'y'].map((it) => document.querySelector('#paper svg svg').getAttribute(it))")
-        x, y = centred(STOCK[name][0], 10, 0.5, False)
+        x, y = centred(STOCK[name][0], written("123456"), 0.5, False)
         expect(f"{name}: its place on the page", [round(float(length) + 1, 2) for length in place], [x, y])
         run("dispatchEvent(new Event('afterprint'))")
     push("label-text")
@@ -279,9 +269,8 @@ def drawn_in(where):
     grids = []
     for box, path in paths:
         rows = [["0"] * (int(box.split()[2]) - 4) for _ in range(int(float(box.split()[3])) - 4)]
-        for column, row, length in re.findall(r"M(\d+) (\d+)h(\d+)", path):
-            for k in range(int(length)):
-                rows[int(row)][int(column) + k] = "1"
+        for column, row, length in (map(int, run_of) for run_of in re.findall(r"M(\d+) (\d+)h(\d+)", path)):
+            rows[row][column : column + length] = "1" * length
         grids.append("\n".join("".join(row) for row in rows))
     return grids
 
@@ -307,10 +296,7 @@ ASKED = [
      f"{MAY_BE} It isn’t known what place, part, howmany may be.", "headings", {0: "text", 1: "message", 2: "copies"},
      ["A1", "A1"], ["left", "left"]),
 ]
-CHOOSE = """
-    const choice = document.querySelectorAll('#columns-are select')[arguments[0]];
-    choice.value = arguments[1];
-    choice.dispatchEvent(new Event('change', { bubbles: true }))"""
+CHOOSE = "choose(document.querySelectorAll('#columns-are select')[given[0]], given[1])"
 
 
 def answer(first, columns):
@@ -318,7 +304,7 @@ def answer(first, columns):
     if first:
         push(f"first-{first}")
     for column, role in columns.items():
-        run(CHOOSE, column, role)
+        do(CHOOSE, column, role)
     push("columns-taken")
 
 
@@ -345,7 +331,7 @@ def asked_about_columns():
     push("first-headings")
     for column, role, why in ((0, "left out", "One column has to be the message."), (0, "message", ""),
                               (1, "message", "One column has to be the message."), (1, "text", "")):
-        run(CHOOSE, column, role)
+        do(CHOOSE, column, role)
         push("columns-taken" if is_seen("columns-taken") else "many-pdf")
         if why:
             expect(f"column {column} as {role}", (text_of("sheet-hint"), files()), (why, []))
@@ -604,9 +590,8 @@ def opened_again():
             push("profile-0")
             give("lines", f"again-{name}", body)
             soon(f"{kind} in {name}", lambda: text_of("sheet-hint"), f"The labels of again-{name}.")
-            state = run("""return ["lines-as", "messages", "stock", "millimetres", "paper-size", "label-width"].map(
-                           (id) => document.getElementById(id).value)""")
-            expect(f"{kind} in {name}: what is chosen", (state, find("profile-1").is_selected()),
+            now = [value_of(it) for it in ("lines-as", "messages", "stock", "millimetres", "paper-size", "label-width")]
+            expect(f"{kind} in {name}: what is chosen", (now, find("profile-1").is_selected()),
                    ([kind, text, stock, millimetres, "a4", "44.5"], True))
             expect(f"{kind} in {name}: the labels", pages_of(saved("symbols.pdf", "many-pdf")), pages_of(pdf))
     write("a PDF of one", size="rectangle")
@@ -627,48 +612,70 @@ def opened_again():
          ("The labels of odd.json.", "own", "square"))
 
 
-def read_again(name, body, message, text):
-    """Opens a file of a symbol as a picture, of which that symbol is read."""
-    push("tab-read")
-    opened(name, body)
-    expect(f"{name} of {message}, opened again", (grid(), shown()["says"]), (text, message))
-    push("tab-make")
-
-
 def in_archives():
     """Many symbols in one archive, each as it would be saved alone; one symbol, and many without labels, as PDF."""
     begin()
-    messages = ["one", "two", "Mitsubadoor and more"]
-    put("messages", "\n".join(messages))
-    sides = [written(message).index("\n") for message in messages]
-    for ending in ("svg", "png"):
-        files = archived(ending)
-        expect(f"names of {ending}", [*files], [f"{k + 1:03}-symbol-{side}.{ending}" for k, side in enumerate(sides)])
-        expect(f"{ending}: what is said", text_of("sheet-hint"), "3 symbols are in the archive.")
-        for message, side, body in zip(messages, sides, files.values()):
-            if ending == "svg":
-                height = f"{round((side + 4) * 0.4 + height_below(message, 20), 3):g}mm"
-                expect(f"SVG of {message}", f'width="20mm" height="{height}"' in body.decode(), True)
-            else:
-                at = body.index(b"pHYs") + 4
-                width, across = struct.unpack(">I", body[16:20])[0], struct.unpack(">I", body[at : at + 4])[0]
-                sum_of = (zlib.crc32(body[at - 4 : at + 9]), struct.unpack(">I", body[at + 9 : at + 13])[0])
-                expect(f"PNG of {message}", (round(1000 * width / across, 2), sum_of[0]), (20, sum_of[1]))
-            read_again(f"label.{ending}", body, message, written(message))
-    paper_is("label", "0.4")
-    pages, grids, _ = in_pdf()
-    lengths = [round((side + 4) * 0.4, 2) for side in sides]
-    heights = [round(length + height_below(message, 20), 1) for length, message in zip(lengths, messages)]
-    expect("a PDF of many", [[width, round(height, 1)] for (width, height), _, _ in pages],
-           [[20, height] for height in heights])
-    expect("its symbols", grids, [written(each) for each in messages])
-    push("label-text")
-    pages, *_ = in_pdf()
-    expect("without texts", [(size, texts) for size, _, texts in pages], [([length] * 2, []) for length in lengths])
-    push("label-text")
-    ((size, [(x, y, module, rows)], texts),) = pages_of(saved("symbol-10.pdf", "save-pdf"))
-    expect("a PDF of one", (size, round(x, 3), round(y, 3), round(module, 3), rows, texts),
-           ([5.6, 5.6], 0.8, 0.8, 0.4, written("123456"), []))
+    for shape, messages in (("square", ["one", "two", "Mitsubadoor and more"]), ("rectangle", RECTANGLES)):
+        choose("shape", shape)
+        paper_is("a4", "0.4")
+        put("messages", "\n".join(messages))
+        grids = [written_in(message, shape) for message in messages]
+        # (each text has room in one line, with the largest letters that have)
+        below = [next(LINE * size for size in SIZES if len(message) * WIDTH * size <= 20) for message in messages]
+        sizes = [[(text.index("\n") + 4) * 0.4, (text.count("\n") + 5) * 0.4] for text in grids]
+        for ending in ("svg", "png"):
+            files = archived(ending)
+            expect(f"names of {ending}", [*files],
+                   [f"{k + 1:03}-symbol-{name_of(text)}.{ending}" for k, text in enumerate(grids)])
+            expect(f"{ending}: what is said", text_of("sheet-hint"), f"{len(grids)} symbols are in the archive.")
+            for message, text, (_, high), more, body in zip(messages, grids, sizes, below, files.values()):
+                is_as_it_is(f"{ending} of {message}", ending, body, (high, more, message))
+                push("tab-read")
+                opened(f"label.{ending}", body)
+                expect(f"{ending} of {message}, opened again", (grid(), shown()["says"]), (text, message))
+                push("tab-make")
+        paper_is("label", "0.4")
+        pages, got, _ = in_pdf()
+        expect("a PDF of many", [[width, round(height, 1)] for (width, height), _, _ in pages],
+               [[20, round(high + more, 1)] for (_, high), more in zip(sizes, below)])
+        expect("its symbols", got, grids)
+        push("label-text")
+        pages, *_ = in_pdf()
+        expect("without texts", [(size, texts) for size, _, texts in pages],
+               [([round(side, 2) for side in size], []) for size in sizes])
+        push("label-text")
+    for shape, line, name, size in (("square", "123456", "10", [5.6, 5.6]), ("rectangle", "Label", "8x18", [8.8, 4.8])):
+        write(line, size=shape)
+        ((got, [(x, y, module, rows)], texts),) = pages_of(saved(f"symbol-{name}.pdf", "save-pdf"))
+        expect(f"a PDF of one, {name}", (got, round(x, 3), round(y, 3), round(module, 3), rows, texts),
+               (size, 0.8, 0.8, 0.4, written_in(line, shape), []))
+
+
+def is_as_it_is(name, ending, body, drawn_there):
+    """Whether a file has a symbol of this height and, below it, its text of this height, as large as they are said to
+    be, in millimetres or dots."""
+    high, more, message = drawn_there
+    if ending == "svg":
+        height = f'width="20mm" height="{round(high + more, 3):g}mm"'
+        expect(name, (height in body.decode(), f">{message}</title>" in body.decode()), (True, True))
+        return
+    at = body.index(b"pHYs") + 4
+    pixels, (each, check) = struct.unpack(">II", body[16:24]), struct.unpack(">I5xI", body[at : at + 13])
+    expect(name, (pixels, each, zlib.crc32(body[at - 4 : at + 9])), ((500, round(25 * (high + more))), 25000, check))
+    expect(f"{name}: its text", inked_below(body, round(25 * high)), True)
+
+
+def inked_below(body, row):
+    """Whether a picture has something dark below a row of its pixels, as the browser opens it."""
+    return on.page.execute_async_script("""const [picture, row, done] = arguments, image = new Image();
+           image.src = "data:image/png;base64," + picture;
+           image.decode().then(() => {
+               const { naturalWidth: width, naturalHeight: height } = image;
+               const pen = Object.assign(document.createElement("canvas"), { width, height }).getContext("2d");
+               pen.drawImage(image, 0, 0);
+               const { data } = pen.getImageData(0, row, width, height - row);
+               done(data.some((value, k) => k % 4 === 0 && value < 128));
+           });""", base64.b64encode(body).decode(), row)
 
 
 CODINGS = {"utf-8": "", "utf-8-sig": "", "utf-16": " It is UTF-16.",

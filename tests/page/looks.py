@@ -2,8 +2,8 @@
 import re
 
 from tests.page.conduct import verdict
-from tests.page.stage import (By, Keys, acting, attribute, cells, click, expect, find, focused, grid, learn, media,
-                              metrics, pointed, push, put, run, settle, text_of, unfold, usable, usual_metrics,
+from tests.page.stage import (By, Keys, acting, attribute, cells, click, do, expect, find, focused, grid, learn, media,
+                              metrics, pointed, press, push, put, run, text_of, texts_of, unfold, usable, usual_metrics,
                               value_of, write, written)
 
 
@@ -26,9 +26,7 @@ def lesson():
     push("to-limit")
     expect("damage shows in the sums", sums().split().count("0") < 12, True)
     push("undo", "step-on")
-    run("""const walk = document.getElementById('walk');
-           walk.value = walk.max;
-           walk.dispatchEvent(new Event('input', { bubbles: true }))""")
+    do("put('walk', at('walk').max)")
     path = run("return document.querySelector('#path .way').getAttribute('d')")
     points = [(int(float(x)), int(float(y))) for x, y in re.findall(r"[ML]([\d.]+) ([\d.]+)", path)]
     last_bits = [next((x, y) for number, x, y in bits if number == "8") for _, bits in pointed()]
@@ -66,15 +64,12 @@ def slider():
 
 def words_and_looks():
     write("C:\\new")
-    button = find("message-hint").find_element(By.TAG_NAME, "button")
-    expect("a way to double the backslash", button.text, "Spell it with the backslash doubled")
-    button.click()
-    settle()
+    expect("a way to double the backslash", texts_of("#message-hint button")[0], "Spell it with the backslash doubled")
+    press("#message-hint button")
     expect("the backslash is doubled", (value_of("message"), verdict()[1], focused()),
            ("C:\\\\new", "C:\\new", "message"))
     write("\\A{1/2}")
-    find("message-hint").find_element(By.TAG_NAME, "button").click()
-    settle()
+    press("#message-hint button")
     expect("so is one that begins no head", value_of("message"), "\\\\A{1/2}")
     for text, name in (("a\u200bb", "the invisible character U+200B"), ("a\u00a0b", "the invisible character U+00A0"),
                        ("a\x01b", "the control character U+0001"), ("a\u20acb", "\u20ac"), ("a\tb", "a tab")):

@@ -2,9 +2,9 @@
 pictures of bench/photographs, by seeds of their own; and some of 12 megapixels, as a phone takes them, which are made
 here. Each takes the usual work, so that what is read doesn't depend on what else the machine does. Times are in
 milliseconds: of a processor, of all that the browser's processes and dm_sample take until the first answer is on the
-screen, and by the clock."""
+screen, and of that what its worker takes, in which pictures are opened and searched; and by the clock."""
+import collections
 import json
-import os
 import pathlib
 import random
 import resource
@@ -13,36 +13,47 @@ import subprocess
 import time
 
 from tests.page import browser
+from tests.page.conduct import linked
+from tests.page.everyone import begun_with
 from tests.page.parts import load
+from tests.page.photographs import made
 from tests.page.stage import DEBIANS, Keys, find, on, push, put, run, settle, texts_of, wait_for, written
 from tests.support import places
 
 PAGE = places.path("web", "out", "mitsubadoor.html")
-SAMPLER, MAKER = places.path("sampler", "out", "dm_sample"), places.path("bench", "photographs")
+SAMPLER = places.path("sampler", "out", "dm_sample")
 SEED, SHARE = "page", 8
 PHONES, LENGTHS = 20, (3, 8, 16, 30, 60, 110, 190)  # pictures, and letters of their messages
 STARTS, KEYS = 12, 30
 SIDES = {16: 12, 52: 200, 104: 810}  # of a symbol, and how many letters make one
+# Seconds after which nothing is drawn of an answer any more, and after which what was entered is kept and linked too.
+DRAWN, CALM = 0.1, 0.5
 
-# Writes down how long after a picture was chosen the frame came in which something is said of it; until then, and until
-# it may go on, no other symbols are looked for.
-WATCH = """
-    const hint = document.getElementById('picture-hint');
-    globalThis.watched = { first: null };
-    document.getElementById('picture').addEventListener('change', () => {
-        watched = { begun: performance.now(), first: null, open: null };
-        watched.goes = new Promise((go) => { watched.go = go; });
-    }, true);
+# Has files brought into the page, where choosing one of them is an act of the page alone.
+BRING = """
+    document.body.append(Object.assign(document.createElement("input"), { type: "file", id: "brought" }));
     const desk = mitsubadoor.desks.pictures, ask = desk.ask.bind(desk);
-    desk.ask = async (kind, ...given) => { if (kind === "rest") await watched.goes; return ask(kind, ...given); };
-    const painted = (then) => requestAnimationFrame(() => setTimeout(() => then(performance.now()), 0));
-    new MutationObserver(() => {
-        const text = hint.textContent;
-        if (text.endsWith(': looking for symbols…')) watched.open ??= performance.now() - watched.begun;
-        if (!text || text.endsWith('…') || watched.first !== null) return;
-        watched.first = 0;
-        painted((at) => { watched.first = at - watched.begun; });
-    }).observe(hint, { childList: true, characterData: true, subtree: true });"""
+    desk.ask = async (kind, given, lane, how) => {
+        if (kind === "rest") await new Promise((go) => { watched.go = go; });
+        const tell = (progress) => { watched.open ??= performance.now(); how?.tell?.(progress); };
+        return ask(kind, given, lane, { ...how, tell });
+    };"""
+# Chooses a file, and tells when the picture was open, and when the frame came in which something is said of it. Until
+# it may go on, no other symbols are looked for.
+CHOOSE = """
+    const [done] = arguments, at = (id) => document.getElementById(id), list = new DataTransfer();
+    globalThis.watched = { open: null, go: () => {} };
+    const begun = performance.now(), since = (time) => (time ?? begun) - begun;
+    const tell = () => done([since(watched.open), since(performance.now())]);
+    const watch = new MutationObserver(() => {
+        if (at("picture-hint").textContent.endsWith("…")) return;
+        watch.disconnect();
+        requestAnimationFrame(() => setTimeout(tell, 0));
+    });
+    watch.observe(at("picture-hint"), { childList: true });
+    list.items.add(at("brought").files[0]);
+    at("picture").files = list.files;
+    at("picture").dispatchEvent(new Event("change"));"""
 SAID = "#found-are button:not(.unread) code"
 # The same for a key, and for the start of the page.
 WATCH_KEYS = """
@@ -78,42 +89,41 @@ def phone_set():
     return folder, [{"file": f"phone-{k:02d}.jpg", "messages": [text]} for k, text in enumerate(texts)]
 
 
-def photograph_set(*kind):
-    folder = on.folder / "-".join(["photographs", *kind])
-    subprocess.run([DEBIANS, MAKER, "--program", on.program, "--seed", SEED, "--share", str(SHARE), *kind, folder],
-                   check=True, stderr=subprocess.DEVNULL)
-    return folder, json.loads((folder / "index.json").read_text())
-
-
 # ---- One picture
 
 def spent():
-    """The milliseconds of a processor that the browser's processes have taken, but for the driver."""
-    leaders, ticks = {service.process.pid for service in browser.started}, 0
-    for stat in pathlib.Path("/proc").glob("[0-9]*/stat"):
+    """The nanoseconds of a processor that each thread of the browser's processes has taken, but for the driver, and its
+    name."""
+    leaders, threads = {service.process.pid for service in browser.started}, {}
+    for process in pathlib.Path("/proc").glob("[0-9]*"):
         try:
-            words = stat.read_text().rpartition(")")[2].split()
+            leader = int((process / "stat").read_text().rpartition(")")[2].split()[3])
+            if leader in leaders and int(process.name) not in leaders:
+                for thread in process.glob("task/[0-9]*"):
+                    taken = int((thread / "schedstat").read_text().split()[0])
+                    threads[thread.name] = taken, (thread / "comm").read_text()
         except OSError:
-            continue  # it has ended meanwhile
-        if int(words[3]) in leaders and int(stat.parent.name) not in leaders:
-            ticks += int(words[11]) + int(words[12])
-    return 1000 * ticks / os.sysconf("SC_CLK_TCK")
+            pass  # it has ended meanwhile
+    return threads
 
 
 def by_page(file):
-    """What the page says stands in a picture; when its first answer was on the screen, by the clock and of a
-    processor; when the picture was open."""
-    run("document.getElementById('picture-hint').textContent = ''")
+    """What the page says stands in a picture; when its first answer was on the screen, by the clock and of a processor,
+    and of that what the worker took; when the picture was open."""
+    find("brought").send_keys(str(file))
+    linked()
+    time.sleep(CALM)
     before = spent()
-    find("picture").send_keys(str(file))
-    wait_for(lambda: run("return watched.first"))
-    taken = spent() - before
+    opened, first = on.page.execute_async_script(CHOOSE)
+    time.sleep(DRAWN)
+    taken = [(used - before.get(thread, (0,))[0], name) for thread, (used, name) in spent().items()]
+    all_of, worker = (sum(used for used, name in taken if name.startswith(begin)) / 1e6 for begin in ("", "Dedicated"))
     run("watched.go()")
     settle()
     said = texts_of(SAID)
     if not said and run("return document.getElementById('state').textContent") == "Read":
         said = [run("return document.getElementById('says').textContent")]
-    return said, run("return watched.first"), taken, run("return watched.open")
+    return said, first, all_of, worker, opened
 
 
 def natively(file, *more):
@@ -126,20 +136,16 @@ def natively(file, *more):
 
 
 def right_and_wrong(said, messages):
-    left = list(messages)
-    for each in said:
-        if each in left:
-            left.remove(each)
-    right = len(messages) - len(left)
+    right = (collections.Counter(said) & collections.Counter(messages)).total()
     return right, len(said) - right
 
 
 def of_set(name, folder, pictures):
     """Counts and times of a set, by the page and natively, one after the other for each picture."""
-    page, native, opening, clock, processor = [0, 0], [0, 0], [], [], []
+    page, native, opening, times = [0, 0], [0, 0], [], {"of a processor": [], "of the worker": [], "by the clock": []}
     for picture in pictures:
         file = folder / picture["file"]
-        said, first, taken, opened = by_page(file)
+        said, first, taken, worker, opened = by_page(file)
         all_of, *_ = natively(file, "--all")
         _, alone, beside = natively(file)
         for counts, told in ((page, said), (native, all_of)):
@@ -147,30 +153,30 @@ def of_set(name, folder, pictures):
                 counts[k] += number
         if right_and_wrong(said, picture["messages"])[0] < right_and_wrong(all_of, picture["messages"])[0]:
             print(f"  only natively: {picture['file']}", flush=True)
-        opening.append(opened or 0)
-        clock.append((first, alone))
-        processor.append((taken, beside))
+        opening.append(opened)
+        for both, pair in zip(times.values(), ((taken, beside), (worker, beside), (first, alone))):
+            both.append(pair)
     symbols = sum(len(picture["messages"]) for picture in pictures)
     print(f"{name}: {len(pictures)} pictures, {symbols} symbols; read (wrong) by the page {page[0]} ({page[1]}), "
-          f"natively {native[0]} ({native[1]})", flush=True)
-    for what, times in (("of a processor", processor), (f"by the clock, {median(opening)} to open", clock)):
-        ratio = statistics.median(one / other for one, other in times)
-        print(f"  to the first answer, {what}: {median([one for one, _ in times])}; natively "
-              f"{median([other for _, other in times])}; ratio {ratio:.2f}", flush=True)
+          f"natively {native[0]} ({native[1]}); open after {median(opening)}", flush=True)
+    for what, pairs in times.items():
+        (ours, theirs), ratio = zip(*pairs), statistics.median(one / other for one, other in pairs)
+        print(f"  to the first answer, {what}: at the median {median(ours)}, on average "
+              f"{round(statistics.mean(ours))}; natively {median(theirs)}, {round(statistics.mean(theirs))}; "
+              f"ratio {ratio:.2f}", flush=True)
 
 
 # ---- Starts and keys
 
 def starts():
     on.page.execute_cdp_cmd("Page.enable", {})
-    added = on.page.execute_cdp_cmd("Page.addScriptToEvaluateOnNewDocument", {"source": WATCH_START})
     painted, ready = [], []
-    for _ in range(STARTS):
-        load(PAGE)
-        wait_for(lambda: run("return globalThis.startedAt"))
-        painted.append(run("return performance.getEntriesByName('first-contentful-paint')[0]?.startTime ?? 0"))
-        ready.append(run("return startedAt"))
-    on.page.execute_cdp_cmd("Page.removeScriptToEvaluateOnNewDocument", {"identifier": added["identifier"]})
+    with begun_with(WATCH_START):
+        for _ in range(STARTS):
+            load(PAGE)
+            wait_for(lambda: run("return globalThis.startedAt"))
+            painted.append(run("return performance.getEntriesByName('first-contentful-paint')[0]?.startTime ?? 0"))
+            ready.append(run("return startedAt"))
     print(f"start: first paint {median(painted)}, takes input {median(ready)}; at best {round(min(painted))}, "
           f"{round(min(ready))}", flush=True)
 
@@ -197,7 +203,8 @@ def measured():
     keys()
     load(PAGE)
     push("tab-read")
-    run(WATCH)
-    for name, (folder, pictures) in (("photographs", photograph_set()), ("hard ones", photograph_set("--hard")),
-                                     ("12 megapixels", phone_set())):
+    run(BRING)
+    kinds = {"photographs": [], "hard ones": ["--hard"]}
+    sets = {name: made(name, SHARE, "--seed", SEED, *kind) for name, kind in kinds.items()}
+    for name, (folder, pictures) in (*sets.items(), ("12 megapixels", phone_set())):
         of_set(name, folder, pictures)

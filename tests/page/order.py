@@ -2,12 +2,12 @@
 to it, and what is shown, copied and linked is about what stands in the field. Random bursts of acts are judged by the
 program, by the library where that reads no such symbol, and by a model of their order."""
 import random
-import urllib.parse
 
-from tests.page.judge import asked_to_read, asked_to_write, in_lines, judged, line_of_items
+from tests.page.history import fields
+from tests.page.judge import asked_to_read, asked_to_write, in_lines, judged
 from tests.page.stage import (ACTS, COLLECT, QUIET, SHOWN, Keys, acting, as_program, changed, do, expect, find, fold,
-                              grid, head, offset, on, push, put, run, settle, shown, soon, text_of, told, value_of,
-                              write, written)
+                              grid, head, offset, on, push, put, run, settle, shown, soon, spelled, text_of, told,
+                              value_of, write, written)
 
 
 # ---- Keys and the mouse, as quickly as the browser takes them
@@ -54,7 +54,7 @@ def typed_and_done_at_once():
         typed_then(f"{text}0", pressing("copy"))
         expect(f"{text}0 is copied", run("return copied.at(-1)").strip(), written(f"{text}0"))
         typed_then(text, pressing("copy-link"))
-        linked = fields(run("return copied.at(-1)").partition("#")[2])
+        linked = fields(run("return copied.at(-1)"))
         expect(f"{text} is linked", (linked["message"], "damage" in linked), (text, False))
 
 
@@ -80,10 +80,6 @@ def taken_at_once():
     push("tab-read", "take-written")
     expect("no written symbol", (shown()["state"], text_of("grid-hint")),
            ("Nothing is read", "There is no written symbol: the message can’t be taken."))
-
-
-def fields(fragment):
-    return {name: values[0] for name, values in urllib.parse.parse_qs(fragment, keep_blank_values=True).items()}
 
 
 # ---- Random bursts
@@ -155,9 +151,6 @@ class Modelled:
 
     def __init__(self):
         self.original, self.steps, self.undone = None, [], []
-
-    def columns(self):
-        return self.original.index("\n")
 
     def enter(self, original):
         self.original, self.steps, self.undone = original, [], []
@@ -288,7 +281,7 @@ class Generator:
         if here.original is None:
             return {"kind": "tap", "across": across, "down": 0.15}
         if self.task == "learn":
-            module = int(across * (here.columns() + 2 * QUIET)) - QUIET
+            module = int(across * (here.original.index("\n") + 2 * QUIET)) - QUIET
             here.step([module] if self.is_doubting else module)
         rows = here.original.count("\n") + 1
         return {"kind": "tap", "across": across, "down": (QUIET + 0.5) / (rows + 2 * QUIET)}
@@ -381,13 +374,13 @@ def as_answered(question, answer):
     if "fault" in answer:
         return None
     corrected = " ".join(map(str, answer["corrected"]))
-    return line_of_items(answer["items"]), f"ok {question['rows']} border {answer['border']} corrected {corrected}"
+    return spelled(answer["items"]), f"ok {question['rows']} border {answer['border']} corrected {corrected}"
 
 
 def is_linked(now, ends, size):
     """Whether the address says what is entered and in which size, and which of its modules are turned over or
     doubtful."""
-    linked, (original, _, _) = fields(now["linked"][1:]), ends["write"]
+    linked, (original, _, _) = fields(now["linked"]), ends["write"]
     text, doubtful = now["marks"]["write"]["now"]
     damage, doubts = ([], []) if original is None else (changed(original, text), places_in(doubtful))
 

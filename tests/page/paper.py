@@ -47,11 +47,6 @@ def paper_is(name, millimetres):
     put("millimetres", millimetres)
 
 
-def length_of(millimetres):
-    """The millimetres of a symbol of side 10 with its quiet zone, as they are said."""
-    return f"{round(14 * float(millimetres), 2):g}"
-
-
 def asked():
     """How often printing has been asked for."""
     return run("return globalThis.printed")
@@ -72,8 +67,9 @@ def printed_at_its_size():
                      (asked() - before,
                       [[round(side) if side > 7.5 and side != 215.9 and side != 279.4 else side for side in box]
                        for box in boxes], widths), (1, [page], [round(10 * float(millimetres), 2)]))
+        length = f"{round(14 * float(millimetres), 2):g}"
         expect(f"{millimetres} mm on {name}: it is said", text_of("print-size"),
-               f"{length_of(millimetres)} × {length_of(millimetres)} mm with 2 modules of quiet zone")
+               f"{length} × {length} mm with 2 modules of quiet zone")
     for name, millimetres, room in (("a4", "20", "A4 has room for 180 mm"), ("a4", "12.9", "A4 has room for 180 mm"),
                                     ("letter", "13.3", "Letter has room for 185.9 mm")):
         paper_is(name, millimetres)
@@ -115,6 +111,7 @@ def sheets():
         ("a4", "0.5", "12\n(01)0950600013435(21)0ABC", "Message 2: (01) GTIN takes 14 digits, and has 13."),
         ("a4", "0.5", "(01)09506000134353",
          "Message 1: It isn’t right as GS1 data: (01) GTIN, the check digit 3 should be 2."),
+        ("a4", "0.5", "fine\ncaf\u00e9", "Message 2: column 4 is \u00e9, which has no spelling of its own"),
         ("a4", "0.5", "12\n(05)123", "Message 2: column 1 begins (05), which is no identifier of GS1’s table"),
         ("a4", "12", "12\n0123456789", "Message 2 makes a symbol that is 192 mm wide: "
          "A4 has room for 180 mm within its margins. Take narrower modules, or a label."),

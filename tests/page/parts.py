@@ -11,12 +11,11 @@ LONGEST = ["bursts", "without_growth", "texts_of_all_scripts", "photographs", "o
            "each_is_made", "sizes_by_shape", "marks_of_every_size", "in_all_ways", "much_damage"]
 PARTS = [everyone.one_file, damage.codewords, damage.by_keys, damage.dragged, damage.touched, damage.border,
          damage.fixed_square, damage.another_message, texts.pasted, pictures.pictures, pictures.other_codes,
-         pictures.printed, texts.compared, pictures.saved, texts.spellings, damage.small_symbol,
+         pictures.printed, texts.compared, pictures.saved_and_opened, texts.spellings, damage.small_symbol,
          everyone.to_be_seen_by_all, texts.profiles, *conduct.PARTS, *giving.PARTS, *looks.PARTS, *tasks.PARTS,
          *order.PARTS, *first.PARTS, *history.PARTS, *kept.PARTS, *elements.PARTS, *paper.PARTS, *labels.PARTS,
          *sights.PARTS, *several.PARTS, *installed.PARTS, *sizes.PARTS, *contents.PARTS, *bounds.PARTS, damage.blocks,
-         damage.sizes, *endurance.PARTS,
-         damage.much_damage, *photographs.PARTS, texts.other_encoders, everyone.old_browser]
+         *endurance.PARTS, damage.much_damage, *photographs.PARTS, texts.other_encoders, everyone.old_browser]
 PARTS.sort(key=lambda part: LONGEST.index(part.__name__) if part.__name__ in LONGEST else len(LONGEST))
 
 

@@ -5,20 +5,50 @@ import struct
 import subprocess
 import zlib
 
-from tests.page.stage import (WAYS, Keys, agree, expect, find, give, grid, is_seen, on, push, put, run, settle, shown,
-                              soon, text_of, turned, unfold, usable, value_of, wait_for, write, written)
+from tests.page.stage import (WAYS, Keys, agree, expect, find, give, grid, is_seen, on, push, put, run, saved, settle,
+                              shown, soon, text_of, turned, unfold, usable, value_of, wait_for, write, written)
 
 
 def png(rows, scale, around, light=255, dark=0, speck=0):
     """A grey picture of a grid, perhaps with a speck of so many pixels in a corner, so that it is no grid alone."""
-    down, across = len(rows) + 2 * around, len(rows[0]) + 2 * around
-    blank = [bytes([light]) * (across * scale)] * (around * scale)
-    margin = "0" * around
-    inner = [b"".join(bytes([dark if module == "1" else light]) * scale for module in margin + row + margin)
-             for row in rows for _ in range(scale)]
-    lines = blank + inner + blank
-    lines[:speck] = [bytes([dark]) * speck + line[speck:] for line in lines[:speck]]
-    return chunks(across * scale, down * scale, b"".join(b"\0" + line for line in lines))
+    across, down = (scale * (length + 2 * around) for length in (len(rows[0]), len(rows)))
+    blank = bytes([light]) * across
+    lines = [bytes([dark]) * speck + blank[speck:]] * speck + [blank] * (down - speck)
+    return laid(lines, rows, scale, around * scale, around * scale, light, dark)
+
+
+def noise(side, scale):
+    """A picture of so many random modules on each side, in which there is no symbol."""
+    return png(["".join(random.choice("01") for _ in range(side)) for _ in range(side)], scale, 2)
+
+
+def laid(lines, rows, scale, left, top, light=225, dark=30):
+    """The picture of a grid on a ground, whose greys are given line by line."""
+    for r, row in enumerate(rows):
+        part = b"".join(bytes([dark if module == "1" else light]) * scale for module in row)
+        for y in range(top + scale * r, top + scale * (r + 1)):
+            lines[y] = lines[y][:left] + part + lines[y][left + len(part):]
+    return chunks(len(lines[0]), len(lines), b"".join(b"\0" + line for line in lines))
+
+
+def scene(width, height, placed, turn=(1.0, 0.0), scale=4, light=225, dark=30, specks=0):
+    """The picture of grids whose upper left corners are at these places, all of it turned by an angle of this cosine
+    and sine about its middle; of every so many pixels one is a dark speck, if a number is given."""
+    cosine, sine = turn
+    lines = []
+    for y in range(height):
+        line = bytearray(b"\0" + bytes([light]) * width)
+        for x in range(width):
+            across, down = x - width / 2, y - height / 2
+            u, v = across * cosine + down * sine + width / 2, down * cosine - across * sine + height / 2
+            if specks and (7 * x + 13 * y) % specks == 0:
+                line[1 + x] = dark
+            for rows, (left, top) in placed:
+                c, r = int((u - left) // scale), int((v - top) // scale)
+                if 0 <= r < len(rows) and 0 <= c < len(rows[0]) and rows[r][c] == "1":
+                    line[1 + x] = dark
+        lines.append(bytes(line))
+    return chunks(width, height, b"".join(lines))
 
 
 def chunks(width, height, lines):
@@ -72,14 +102,13 @@ def pictures():
                  ("i.png: 10 × 10. It can’t be read as it stands, nor turned, mirrored or inverted. It is shown as it "
                   "stands.", "Refused"))
     before = grid()
-    noise = ["".join(random.choice("01") for _ in range(23)) for _ in range(23)]
     no_symbol = "No symbol that can be read was found in the picture."
-    give("picture-A", "beside.png", png(noise, 5, 2))
+    give("picture-A", "beside.png", noise(23, 5))
     soon("a picture without a symbol in a slot", lambda: no_symbol in text_of("slot-a"), True)
     expect("what is said of a picture stays, whatever is looked at in a slot", text_of("picture-hint"), said)
     whole = png(rows, 8, 3)
     for name, body, why in (
-        ("noise.png", png(noise, 5, 2), no_symbol),
+        ("noise.png", noise(23, 5), no_symbol),
         ("white.png", png(["0" * 10] * 10, 2, 2), "The picture has only one colour."),
         ("square.png", png(["1" * 10] * 10, 8, 3), no_symbol),
         ("text.png", b"no picture", "The file can’t be opened as a picture."),
@@ -88,6 +117,7 @@ def pictures():
         expect(f"{name} is no symbol", opened(name, body).split(LIKEST)[0], f"{name}: {why}")
         expect(f"{name}: no verdict of the one before", (shown()["state"], shown()["says"], usable("save-png")),
                ("Nothing is read", "", False))
+        expect(f"{name}: nor that one", is_seen("scene"), body[:4] == whole[:4] and name != "half.png")
     expect("no symbol of another picture is left", (grid(), before != ""), ("", True))
 
 
@@ -110,13 +140,10 @@ def printed():
     expect("a torn border", [cells[2] for cells in table()[6:]],
            [f"{round(300 / len(rows))} % on the left", "none", "the left border, rows 4 to 6"])
     opened("grid.png", png(rows, 8, 6))
-    expect("of a grid there is no print", (unseen_print(), table()), (True, []))
+    is_hidden = lambda: run("return document.getElementById('print-quality').hidden")
+    expect("of a grid there is no print", (is_hidden(), table()), (True, []))
     push("tab-make")
-    expect("nor of what is made", unseen_print(), True)
-
-
-def unseen_print():
-    return run("return document.getElementById('print-quality').hidden")
+    expect("nor of what is made", is_hidden(), True)
 
 
 # A QR code of version 1, which says `A QR code`: of each row its modules as a number, as zint draws it.
@@ -139,27 +166,17 @@ def other_codes():
     for row in range(7):  # without the pattern in the first corner
         without[row] = "0" * 7 + without[row][7:]
     expect("what has two of its patterns", opened("two.png", png(without, 4, 4)).split(LIKEST)[0], f"two.png: {told}")
-    noise = chunks(700, 700, b"".join(b"\0" + random.randbytes(700) for _ in range(700)))
-    expect("noise", opened("noise.png", noise).split(LIKEST)[0], f"noise.png: {told}")
+    grey = chunks(700, 700, b"".join(b"\0" + random.randbytes(700) for _ in range(700)))
+    expect("noise", opened("noise.png", grey).split(LIKEST)[0], f"noise.png: {told}")
 
 
-def saved():
+def saved_and_opened():
     write("123456")
     put("millimetres", "0.4")
     expect("size in print", text_of("print-size"), "5.6 × 5.6 mm with 2 modules of quiet zone")
-    svg, picture = on.folder / "symbol-10.svg", on.folder / "symbol-10.png"
-    for file in (svg, picture):
-        file.unlink(missing_ok=True)
-    push("save-svg", "save-png")
-    wait_for(lambda: svg.exists() and svg.read_bytes().endswith(b"</svg>\n") and picture.exists()
-             and picture.read_bytes()[-8:-4] == b"IEND")
-    text = svg.read_text()
-    expect(
-        "SVG",
-        text.startswith('<svg xmlns="http://www.w3.org/2000/svg" width="5.6mm" height="5.6mm" viewBox="-2 -2 14 14"'),
-        True,
-    )
-    body = picture.read_bytes()
+    drawing, body = saved("symbol-10.svg", "save-svg"), saved("symbol-10.png", "save-png")
+    begin = b'<svg xmlns="http://www.w3.org/2000/svg" width="5.6mm" height="5.6mm" viewBox="-2 -2 14 14"'
+    expect("SVG", (drawing[:len(begin)], drawing[-7:], body[-8:-4]), (begin, b"</svg>\n", b"IEND"))
     at = body.index(b"pHYs") + 4
     width, across, down, unit = (*struct.unpack(">I", body[16:20]), *struct.unpack(">IIB", body[at : at + 9]))
     expect("PNG: pixels a metre", (across, down, unit, zlib.crc32(body[at - 4 : at + 9])),
@@ -167,11 +184,11 @@ def saved():
     expect("PNG: millimetres", round(1000 * width / across, 3), 5.6)
     push("tab-read")
     write("other")
-    for name, file in (("SVG", svg), ("PNG", picture)):
-        expect(f"{name} opened again", (opened(f"again{file.suffix}", file.read_bytes()), grid()),
-               (f"again{file.suffix}: 10 × 10. Read as it stands.", written("123456")))
+    for name, file in (("again.svg", drawing), ("again.png", body)):
+        expect(f"{name} opened again", (opened(name, file), grid()),
+               (f"{name}: 10 × 10. Read as it stands.", written("123456")))
     if shutil.which("dmtxread"):
-        out = subprocess.run(["dmtxread", "-n", str(picture)], stdout=subprocess.PIPE, timeout=300,
+        out = subprocess.run(["dmtxread", "-n", str(on.folder / "again.png")], stdout=subprocess.PIPE, timeout=300,
                              check=False).stdout.decode()
         expect("PNG by dmtxread", out.strip(), "123456")
     else:

@@ -31,7 +31,7 @@ static void put(const void *bytes, size_t size) {
         exit(2);
 }
 
-static void record_three(head made, input first, input second, input third, const void *output) {
+static void record(head made, input first, input second, input third, const void *output) {
     const input each[INPUTS] = {first, second, third};
     for (int k = 0; k < INPUTS; k++) {
         made.widths[k] = (uint32_t)each[k].width;
@@ -45,17 +45,13 @@ static void record_three(head made, input first, input second, input third, cons
 
 static const input NONE = {NULL, 0, 0};
 
-static void record(head made, input first, input second, const void *output) {
-    record_three(made, first, second, NONE, output);
-}
-
 static uint16_t recorded_read(const uint8_t *modules, size_t count, const uint8_t *doubtful, size_t doubtful_count,
                               const ecc200_scan *scan, ecc200_reading *out) {
     memset(out, FILLED, sizeof *out);
     uint16_t code = ecc200_read(modules, count, doubtful, doubtful_count, scan, out);
     head made = {"ecc200_read", {0}, {0}, {1, 1, 0}, 0, {0}, code, sizeof *out};
-    record_three(made, (input){modules, 1, count}, (input){doubtful, 1, doubtful_count}, (input){scan, sizeof *scan, 1},
-                 out);
+    record(made, (input){modules, 1, count}, (input){doubtful, 1, doubtful_count}, (input){scan, sizeof *scan, 1},
+           out);
     return code;
 }
 
@@ -64,8 +60,8 @@ static uint16_t recorded_normal(const uint8_t *modules, size_t count, const uint
     memset(out, FILLED, sizeof *out);
     uint16_t code = ecc200_normal(modules, count, doubtful, doubtful_count, scan, profile, out);
     head made = {"ecc200_normal", {0}, {0}, {1, 1, 0}, 1, {profile}, code, sizeof *out};
-    record_three(made, (input){modules, 1, count}, (input){doubtful, 1, doubtful_count}, (input){scan, sizeof *scan, 1},
-                 out);
+    record(made, (input){modules, 1, count}, (input){doubtful, 1, doubtful_count}, (input){scan, sizeof *scan, 1},
+           out);
     return code;
 }
 
@@ -74,7 +70,7 @@ static uint16_t recorded_inspect(const uint8_t *modules, size_t count, const uin
     memset(out, FILLED, sizeof *out);
     uint16_t code = ecc200_inspect(modules, count, doubtful, doubtful_count, rows, columns, out);
     head made = {"ecc200_inspect", {0}, {0}, {1, 1}, 2, {rows, columns}, code, sizeof *out};
-    record(made, (input){modules, 1, count}, (input){doubtful, 1, doubtful_count}, out);
+    record(made, (input){modules, 1, count}, (input){doubtful, 1, doubtful_count}, NONE, out);
     return code;
 }
 
@@ -83,8 +79,8 @@ static uint16_t recorded_write(const uint16_t *items, size_t count, const ecc200
     memset(out, FILLED, sizeof *out);
     uint16_t code = ecc200_write(items, count, marks, mark_count, how, out);
     head made = {"ecc200_write", {0}, {0}, {1, 1, 0}, 0, {0}, code, sizeof *out};
-    record_three(made, (input){items, 2, count}, (input){marks, sizeof *marks, mark_count},
-                 (input){how, sizeof *how, 1}, out);
+    record(made, (input){items, 2, count}, (input){marks, sizeof *marks, mark_count}, (input){how, sizeof *how, 1},
+           out);
     return code;
 }
 
@@ -92,25 +88,25 @@ static uint16_t recorded_write_bytes(const uint8_t *bytes, size_t count, const e
     memset(out, FILLED, sizeof *out);
     uint16_t code = ecc200_write_bytes(bytes, count, how, out);
     head made = {"ecc200_write_bytes", {0}, {0}, {1, 0}, 0, {0}, code, sizeof *out};
-    record(made, (input){bytes, 1, count}, (input){how, sizeof *how, 1}, out);
+    record(made, (input){bytes, 1, count}, (input){how, sizeof *how, 1}, NONE, out);
     return code;
 }
 
 static uint16_t recorded_usual_limit(uint16_t rows, uint16_t columns) {
     uint16_t limit = ecc200_usual_limit(rows, columns);
-    record((head){"ecc200_usual_limit", {0}, {0}, {0}, 2, {rows, columns}, limit, 0}, NONE, NONE, NULL);
+    record((head){"ecc200_usual_limit", {0}, {0}, {0}, 2, {rows, columns}, limit, 0}, NONE, NONE, NONE, NULL);
     return limit;
 }
 
 static void recorded_sizes(ecc200_size_table *out) {
     ecc200_sizes(out);
-    record((head){"ecc200_sizes", {0}, {0}, {0}, 0, {0}, 0, sizeof *out}, NONE, NONE, out);
+    record((head){"ecc200_sizes", {0}, {0}, {0}, 0, {0}, 0, sizeof *out}, NONE, NONE, NONE, out);
 }
 
 static uint16_t recorded_places(uint16_t rows, uint16_t columns, ecc200_place_table *out) {
     memset(out, FILLED, sizeof *out);
     uint16_t code = ecc200_places(rows, columns, out);
-    record((head){"ecc200_places", {0}, {0}, {0}, 2, {rows, columns}, code, sizeof *out}, NONE, NONE, out);
+    record((head){"ecc200_places", {0}, {0}, {0}, 2, {rows, columns}, code, sizeof *out}, NONE, NONE, NONE, out);
     return code;
 }
 

@@ -1,40 +1,26 @@
-"""Several pictures at once, in order and in one list; pictures of many pixels; what isn't read there, by name; and
-longer looks."""
+"""Several pictures at once, in order and in one list; pictures of many pixels; and what isn't read there, by name."""
 import base64
-import csv
-import io
 import json
-import random
 
-from tests.page.labels import saved
-from tests.page.photographs import CAMERA
-from tests.page.pictures import chunks, opened, png
-from tests.page.sights import LISTED, OUTLINED, beyond, scene
-from tests.page.stage import (expect, find, is_seen, on, press, push, put, run, settle, shown, soon, take_time, text_of,
-                              texts_of, wait_for, written)
+from tests.page.photographs import camera_on
+from tests.page.pictures import chunks, laid, opened, png, scene
+from tests.page.sights import LISTED, OUTLINED, beyond
+from tests.page.stage import (expect, find, give, on, press, push, run, saved, settle, shown, soon, table_saved,
+                              text_of, texts_of, wait_for, written)
 from tests.page.bounds import drop
 
 ALL = "#found-are li"
 VIEW = "const it = document.getElementById('view'); return [it.width, it.height]"
 
 
-def pictures():
-    """The files of four pictures: two symbols; none; one that can't be opened; a symbol beside one that isn't read."""
-    grids = {text: written(text).split("\n") for text in ("first", "second", "third", "not to be read, whatever comes")}
-    return [
-        ("two.png", scene(220, 110, [(grids["first"], (20, 30)), (grids["second"], (120, 30))])),
-        ("none.png", scene(120, 110, [])),
-        ("broken.png", b"\x89PNG\r\n\x1a\n"),
-        ("one.png", scene(300, 140, [(grids["third"], (20, 30)),
-                                     (beyond(grids["not to be read, whatever comes"]), (120, 20))])),
-    ]
-
-
 def in_order():
     """Pictures that are opened at once are all looked at, in their order; each failure is named once, and what is at
     hand is shown on its own picture."""
     push("tab-read")
-    files = pictures()
+    first, second, third, other = (written(it).split("\n") for it in ("first", "second", "third", "not to be read"))
+    files = [("two.png", scene(220, 110, [(first, (20, 30)), (second, (120, 30))])), ("none.png", scene(120, 110, [])),
+             ("broken.png", b"\x89PNG\r\n\x1a\n"),
+             ("one.png", scene(300, 140, [(third, (20, 30)), (beyond(other), (120, 20))]))]
     for name, body in files:
         (on.folder / name).write_bytes(body)
     find("picture").send_keys("\n".join(str(on.folder / name) for name, _ in files))
@@ -51,12 +37,11 @@ def in_order():
     press("#found-are button", 2)
     soon("a symbol of another picture", lambda: (shown()["says"], run(VIEW), len(run(OUTLINED))),
          ("third", [300, 140], 2))
-    table = list(csv.reader(io.StringIO(saved("found.csv", "found-csv").decode("utf-8-sig"))))
-    expect("the CSV", [",".join(row[:3]) for row in table[:4]],
+    expect("the CSV", [",".join(row[:3]) for row in table_saved()[:4]],
            ["picture,number,message", "two.png,1,first", "two.png,2,second", "one.png,3,third"])
     told = json.loads(saved("found.json", "found-json"))
     expect("the JSON", [it["picture"] for it in told["symbols"]], ["two.png", "two.png", "one.png", "one.png"])
-    find("saved").send_keys(str(on.folder / "found.json"))
+    give("saved", "found.json")
     soon("the list opened again", lambda: [it[0] for it in run(LISTED)][:3], ["first", "second", "third"])
     none = [name for name, _ in files[1:3]]
     find("picture").send_keys("\n".join(str(on.folder / name) for name in none))
@@ -83,14 +68,7 @@ def of_many_pixels():
     """A picture of 48 million pixels, as phones take them, is read where it is outlined; one of 400 million is named
     before it is decoded."""
     push("tab-read")
-    wide, high, scale, rows = 8000, 6000, 24, written("of a phone").split("\n")
-    blank = b"\0" + b"\xe1" * wide
-    lines = [blank] * high
-    for r, row in enumerate(rows):
-        dark = b"".join((b"\x1e" if module == "1" else b"\xe1") * scale for module in row)
-        line = blank[:4001] + dark + blank[4001 + len(dark):]
-        lines[3000 + r * scale : 3000 + (r + 1) * scale] = [line] * scale
-    opened("phone.png", chunks(wide, high, b"".join(lines)))
+    opened("phone.png", laid([b"\xe1" * 8000] * 6000, written("of a phone").split("\n"), 24, 4000, 3000))
     soon("48 million pixels", lambda: shown()["says"], "of a phone")
     corners = run("const { width, height } = document.getElementById('outlines').dataset; return [+width, +height]")
     expect("its size", [round(it / 100) for it in corners], [80, 60])
@@ -103,7 +81,7 @@ def of_many_pixels():
     expect("400 million", (opened("huge.png", bytes(huge)), shown()["state"]), (said, "Nothing is read"))
 
 
-# A JPEG of a symbol in a red field on a blue ground, with green on the right; or a PNG of its dark modules alone.
+# A JPEG of a symbol in a red field on a blue ground, with green on the right; or its dark modules alone.
 IN_COLOURS = """
     const [rows, width, height, kind] = arguments;
     const canvas = Object.assign(document.createElement("canvas"), { width, height }), pen = canvas.getContext("2d");
@@ -132,7 +110,8 @@ def as_it_is_stored():
     to be turned, upright. What is transparent is white."""
     push("tab-read")
     rows = written("in colours").split("\n")
-    body, clear = (base64.b64decode(run(IN_COLOURS, rows, 1400, 1000, f"image/{kind}")) for kind in ("jpeg", "png"))
+    body, *clear = (base64.b64decode(run(IN_COLOURS, rows, 1400, 1000, f"image/{kind}"))
+                    for kind in ("jpeg", "png", "webp"))
     turned = body[:2] + b"\xff\xe1" + (len(TURNED) + 2).to_bytes(2, "big") + TURNED + body[2:]
     spots = [(0.03, 0.9), (0.95, 0.5), (0.1, 0.15)]  # on the ground, on the right, and in the field
     for name, file, places, stands in (
@@ -146,45 +125,16 @@ def as_it_is_stored():
         far = [abs(one - other) for colour, wanted in zip(colours, [(32, 64, 192), (32, 176, 64), (255, 208, 192)])
                for one, other in zip(colour, wanted)]
         expect(f"{name}: its colours", (is_wide, [each for each in far if each > 12]), (name == "as it is", []))
-    opened("clear.png", clear)
-    expect("on nothing", shown()["says"], "in colours")
-
-
-LONGER = """
-    globalThis.asked = [];
-    const desk = mitsubadoor.desks.pictures, ask = desk.ask.bind(desk);
-    desk.ask = (kind, given, ...more) => {
-        asked.push(given?.time ?? null);
-        return ask(kind, given ? { ...given, time: Infinity } : given, ...more);
-    };"""
-
-
-def longer():
-    """Where the time for a picture was over, more can be taken, for all symbols at once."""
-    push("tab-read")
-    side, scale, rows = 2800, 12, written("in noise").split("\n")
-    lines, across = [b"\0" + random.randbytes(side) for _ in range(side)], len(rows) + 4
-    for y in range(scale * across):
-        row = dict(enumerate(rows, 2)).get(y // scale, "0" * len(rows))
-        drawn = b"".join(bytes([20 if module == "1" else 235]) * scale for module in f"00{row}00")
-        line = lines[1300 + y]
-        lines[1300 + y] = line[:1301] + drawn + line[1301 + len(drawn):]
-    take_time(1000)
-    opened("noise.png", chunks(side, side, b"".join(lines)))
-    soon("more time is offered", lambda: is_seen("look-longer"), True)
-    run(LONGER)
-    push("look-longer")
-    soon("it is taken", lambda: (run("return asked[0]"), shown()["says"]), (30000, "in noise"))
-    run("delete mitsubadoor.desks.pictures.ask")
-    put("grid", "")
-    expect("it isn't offered for a grid", is_seen("look-longer"), False)
+    for name, file in zip(("clear.png", "clear.webp"), clear):
+        opened(name, file)
+        ground, *_ = run(SEEN, [(0.95, 0.95)])[1:]
+        expect(f"{name}, on nothing", (shown()["says"], min(ground) > 250), ("in colours", True))
 
 
 def seen_by_camera():
     """A symbol that a camera sees and can't read is named, with the reason."""
     push("tab-read")
-    rows = beyond(written("damaged beyond what can be corrected").split("\n"))
-    run(CAMERA, [base64.b64encode(png(rows, 12, 3)).decode()], False)
+    camera_on(["\n".join(beyond(written("damaged beyond what can be corrected").split("\n")))])
     hold = "Hold symbols before the camera. What is read is listed, until you stop it."
     soon("nothing is seen", lambda: text_of("picture-hint"), hold)
     run("globalThis.shown = [0]")
@@ -192,4 +142,4 @@ def seen_by_camera():
     run("document.getElementById('camera-off').click(); clearInterval(painter); delete navigator.mediaDevices")
 
 
-PARTS = [in_order, beside_others, of_many_pixels, as_it_is_stored, longer, seen_by_camera]
+PARTS = [in_order, beside_others, of_many_pixels, as_it_is_stored, seen_by_camera]

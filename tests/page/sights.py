@@ -1,14 +1,13 @@
 """What stands in pictures: symbols as the sampler read them, all of them, in reading order, and what isn't read."""
-import csv
-import io
 import json
 import random
 
 from tests.page.conduct import linked
-from tests.page.pictures import LIKEST, QR, chunks, opened, png
-from tests.page.stage import (Keys, acting, click, expect, fill, find, give, grid, head, is_seen, metrics, on, press,
-                              processor_time, push, put, reload, run, settle, shown, soon, take_time, task, text_of,
-                              texts_of, unfold, usable, usual_metrics, value_of, wait_for, written)
+from tests.page.pictures import LIKEST, QR, laid, opened, png, scene
+from tests.page.stage import (COLLECT, Keys, acting, click, expect, fill, find, give, grid, head, is_seen, metrics, on,
+                              press, processor_time, push, put, reload, run, saved, settle, shown, soon, table_saved,
+                              take_time, task, text_of, texts_of, unfold, usable, usual_metrics, value_of, wait_for,
+                              written)
 
 MOST_TIME, OPENING = 3000, 1500  # milliseconds for a picture, and for what is done before and after its search
 LIMIT = 27  # of wrong border modules of a side of 22, if each block leaves a correction unused; usually it is 5
@@ -69,24 +68,6 @@ def handed_on():
 
 
 # ---- All of them
-
-
-def scene(width, height, placed, turn=(1.0, 0.0), scale=4, light=225, dark=30):
-    """The picture of grids whose upper left corners are at these places, all of it turned by an angle of this cosine
-    and sine about its middle."""
-    cosine, sine = turn
-    lines = []
-    for y in range(height):
-        line = bytearray(b"\0" + bytes([light]) * width)
-        for x in range(width):
-            across, down = x - width / 2, y - height / 2
-            u, v = across * cosine + down * sine + width / 2, down * cosine - across * sine + height / 2
-            for rows, (left, top) in placed:
-                c, r = int((u - left) // scale), int((v - top) // scale)
-                if 0 <= r < len(rows) and 0 <= c < len(rows[0]) and rows[r][c] == "1":
-                    line[1 + x] = dark
-        lines.append(bytes(line))
-    return chunks(width, height, b"".join(lines))
 
 
 def beyond(rows):
@@ -163,35 +144,19 @@ def corners_of(left, top, length, turn):
 
 def given_away(messages):
     """All messages are copied, and the list is saved."""
+    run(COLLECT)
     push("found-copy")
-    soon("what is copied", lambda: text_of("toast"), f"Copied: {len(messages)} messages")
-    expect("the clipboard", pasted(), "".join(f"{message}\n" for message in messages))
-    for ending in ("csv", "json"):
-        (on.folder / f"found.{ending}").unlink(missing_ok=True)
-    push("found-csv", "found-json")
-    file = lambda ending: on.folder / f"found.{ending}"
-    wait_for(lambda: file("csv").exists() and file("json").exists() and file("json").stat().st_size)
-    table = file("csv").read_bytes().decode()
+    soon("what is copied", lambda: (run("return copied"), text_of("toast")),
+         (["".join(f"{message}\n" for message in messages)], f"Copied: {len(messages)} messages"))
+    table = saved("found.csv", "found-csv").decode()
     expect("the CSV's mark, and ends of lines", (table[0], table.count("\r\n"), table.count("\n")),
            ("\ufeff", len(messages) + 1, len(messages) + 1))
-    rows = list(csv.reader(io.StringIO(table[1:])))
+    rows = table_saved()
     expect("the CSV", (rows[0], [row[1] for row in rows[1:]]), (["number", "message", "modules", "not read"], messages))
-    told = json.loads(file("json").read_text())
+    told = json.loads(saved("found.json", "found-json"))
     expect("the JSON", (told["complete"], [each["text"] for each in told["symbols"]],
                               {each["read"] for each in told["symbols"]}), (True, messages, {True}))
     expect("its items", [each["items"] for each in told["symbols"]], [list(each.encode()) for each in messages])
-
-
-def pasted():
-    """What is in the clipboard, by way of a field."""
-    run("document.getElementById('messages').value = ''; document.getElementById('sheet').hidden = false")
-    unfold("sheet")
-    push("tab-make")
-    find("messages").send_keys(Keys.CONTROL, "v", Keys.NULL)
-    text = value_of("messages")
-    put("messages", "")
-    push("tab-read")
-    return text
 
 
 LABELLED = "#labels-are p"
@@ -205,15 +170,10 @@ def found_in_tables():
     body = scene(470, 130, [(written(it).split("\n"), place) for it, place in zip(messages, places)])
     opened("formulas.png", body)
     soon("what is listed", lambda: len(run(LISTED)), 4)
-    file = on.folder / "found.csv"
-    file.unlink(missing_ok=True)
-    push("found-csv")
-    wait_for(lambda: file.exists() and file.stat().st_size)
-    cells = [row[1] for row in csv.reader(io.StringIO(file.read_bytes().decode("utf-8-sig")))][1:]
-    expect("cells", cells, ["'=1+1", "'-5 pieces", "''@x", "plain, and more"])
+    expect("cells", [row[1] for row in table_saved()][1:], ["'=1+1", "'-5 pieces", "''@x", "plain, and more"])
     push("tab-make")
     unfold("sheet")
-    find("lines").send_keys(str(file))
+    give("lines", "found.csv")
     soon("its messages", lambda: [it.split(": ", 1)[1] for it in texts_of(LABELLED)], messages[:3])
 
 
@@ -258,27 +218,22 @@ def list_opened_again():
     places = ((30, 40), (130, 40), (250, 40))
     opened("three.png", scene(380, 190, list(zip(grids, places))))
     soon("what is listed", lambda: len(run(LISTED)), 3)
-    before, saved = run(LISTED), on.folder / "found.json"
-    for file in (saved, saved.with_suffix(".csv")):
-        file.unlink(missing_ok=True)
-    push("found-json", "found-csv")
-    wait_for(lambda: saved.exists() and saved.stat().st_size and saved.with_suffix(".csv").exists())
-    told = json.loads(saved.read_text())
-    expect("the grids in it", [each["modules"] for each in told["symbols"]], grids)
+    before, told = run(LISTED), saved("found.json", "found-json")
+    saved("found.csv", "found-csv")
+    expect("the grids in it", [each["modules"] for each in json.loads(told)["symbols"]], grids)
     put("grid", written("meanwhile"))
     push("tab-make")
-    give("saved", "again.json", saved.read_bytes())
+    give("saved", "again.json", told)
     soon("the list again", lambda: text_of("picture-hint"), "The list of again.json.")
     settle()
     expect("what is listed again", [row[:2] for row in run(LISTED)], [row[:2] for row in before])
     expect("the first is at hand", (shown()["says"], is_seen("scene")), ("whole", False))
     press("#found-are button", 1)
     expect("one at its own limit", (shown()["says"], marks()), ("A border that is damaged", [LIMIT, None]))
-    (on.folder / "odd.json").write_text(saved.read_text().replace('"1', '"none', 1))
-    find("saved").send_keys(str(on.folder / "odd.json"))
+    give("saved", "odd.json", told.replace(b'"1', b'"none', 1))
     soon("a list with what is no grid", task, "make")
     push("tab-read")
-    find("saved").send_keys(str(saved.with_suffix(".csv")))
+    give("saved", "found.csv")
     soon("a list in CSV", lambda: (task(), text_of("sheet-hint")), ("make", "The lines of found.csv."))
     labels = ("whole", "A border that is damaged")
     soon("what it gives, without questions", lambda: (is_seen("columns"), texts_of(LABELLED)),
@@ -323,20 +278,10 @@ def large():
     push("tab-read")
     expect("a worker for the first picture", run("return Boolean(mitsubadoor.desks.pictures.worker)"), True)
     run("globalThis.former = mitsubadoor.desks.pictures.worker")
+    # a third colour, so that it is no grid
+    lines = [bytes([225] * k + [130] + [225] * (4399 - k)) for k in range(7)]
     rows = written("in a large picture").split("\n")
-    width, height = 4400, 3900
-    lines = []
-    for y in range(height):
-        r = (y - 900) // 40
-        row = rows[r] if 0 <= r < len(rows) else None
-        line = bytearray(b"\0" + bytes([225]) * width)
-        if row:
-            for c, module in enumerate(row):
-                if module == "1":
-                    line[1 + 1200 + 40 * c : 1 + 1240 + 40 * c] = bytes([30]) * 40
-        line[1 + y % 7] = 130  # a third colour, so that it is no grid
-        lines.append(bytes(line))
-    opened("large.png", chunks(width, height, b"".join(lines)))
+    opened("large.png", laid([lines[y % 7] for y in range(3900)], rows, 40, 1200, 900))
     expect("a large picture", (shown()["state"], shown()["says"]), ("Read", "in a large picture"))
     ((_, (corner, *_)),) = run(OUTLINED)
     expect("its outline", [at for at, wanted in zip(corner, (1200, 900)) if abs(at - wanted) > 3], [])
@@ -346,24 +291,37 @@ def large():
     expect("the next picture", (shown()["state"], shown()["says"]), ("Read", "the next one"))
 
 
+LONGER = """
+    globalThis.asked = [];
+    const desk = mitsubadoor.desks.pictures, ask = desk.ask.bind(desk);
+    desk.ask = (kind, given, ...more) => {
+        asked.push(given?.time ?? null);
+        return ask(kind, given ? { ...given, time: Infinity } : given, ...more);
+    };"""
+
+
 def in_time():
     """What a picture may take is kept, for its first symbol and all others together; if that was too little, it is said
-    that there may be more."""
+    that there may be more, and more time can be taken, for all symbols at once."""
     push("tab-read")
-    side, scale, row_of = 2800, 12, dict(enumerate(written("in noise").split("\n"), 2))
-    across = len(row_of) + 4
-    left, lines = (side - scale * across) // 2, [b"\0" + random.randbytes(side) for _ in range(side)]
-    for y in range(scale * across):
-        row = f"00{row_of.get(y // scale, '0' * len(row_of))}00"
-        symbol, line = b"".join(bytes([20 if module == "1" else 235]) * scale for module in row), lines[left + y]
-        lines[left + y] = line[: 1 + left] + symbol + line[1 + left + len(symbol) :]
+    rows = [f"00{row}00" for row in written("in noise").split("\n")]
+    margin, side, scale = ["0" * len(rows[0])] * 2, 2800, 12
+    at = (side - scale * len(rows[0])) // 2
+    body = laid([random.randbytes(side) for _ in range(side)], [*margin, *rows, *margin], scale, at, at, 235, 20)
     take_time(MOST_TIME)
     before = processor_time()
-    opened("noise.png", chunks(side, side, b"".join(lines)))
+    opened("noise.png", body)
     took = processor_time() - before
     more = "There may be more: the time for a picture was over."
     expect("a symbol in noise", text_of("found-hint").endswith(more), True)
     expect(f"{took:.0f} ms, the opening included", took < MOST_TIME + OPENING, True)
+    soon("more time is offered", lambda: is_seen("look-longer"), True)
+    run(LONGER)
+    push("look-longer")
+    soon("it is taken", lambda: (run("return asked[0]"), shown()["says"]), (30000, "in noise"))
+    run("delete mitsubadoor.desks.pictures.ask")
+    put("grid", "")
+    expect("it isn't offered for a grid", is_seen("look-longer"), False)
 
 
 PARTS = [handed_on, all_symbols, found_in_tables, compared_in_pictures, list_opened_again, unread,

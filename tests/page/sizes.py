@@ -1,7 +1,6 @@
 """Symbols of every size in the page: made in a size that is read as text and from pictures, damaged, with
 modules that the reader is told to be doubtful, linked, compared, and measured on labels. The page's library judges,
 without the page; the marks that another encoder made in every size stand beside it."""
-import base64
 import math
 import random
 import re
@@ -9,14 +8,12 @@ import re
 from tests import corpus
 from tests.page.conduct import go, linked
 from tests.page.history import fields
-from tests.page.judge import (SHAPES, asked_to_read, asked_to_write, in_lines, items_of, judged, content_of, table,
-                              written_in)
-from tests.page.labels import archived, begin, in_pdf, pages_of, read_again, saved
-from tests.page.paper import paper_is
-from tests.page.pictures import chunks, opened, png
-from tests.page.stage import (QUIET, WAYS, acting, attribute, cells, changed, choose, click, coloured, drawn, expect,
-                              fill, find, flat, grid, head, is_seen, offset, on, push, put, reload, run, settle, shown,
-                              text_of, texts_of, turned, unfold, usable, value_of, write, written)
+from tests.page.judge import (SHAPES, asked_to_read, asked_to_write, content_of, in_lines, judged, name_of, table,
+                              words_of, written_in)
+from tests.page.pictures import opened, png, scene
+from tests.page.stage import (WAYS, Keys, agree, attribute, cells, changed, choose, click, coloured, drag, drawn,
+                              expect, flat, grid, is_seen, push, put, reload, run, send, settle, shown, text_of,
+                              texts_of, turned, unfold, usable, value_of, write, written)
 
 
 def agree_with_judge(name, line=None):
@@ -36,7 +33,7 @@ def agree_with_judge(name, line=None):
     expect(f"{name}: meters", seen["meters"][:-1], blocks)
     expect(f"{name}: border", seen["meters"][-1].split(" ")[0], str(answer["border"]))
     if line is not None:
-        is_that = answer["items"] == items_of(line)
+        is_that = answer["items"] == content_of(line)["items"]
         expect(name, (seen["state"] in ("Read", "Read, as GS1 data"), is_that), (is_that, is_that))
     return answer
 
@@ -44,16 +41,6 @@ def agree_with_judge(name, line=None):
 def kinds(what):
     """How many codewords have cells of a kind, data and check codewords alike."""
     return sum(kind in (what, f"check {what}") for *_, kind in cells())
-
-
-def name_of(text):
-    rows = text.split("\n")
-    return str(len(rows)) if len(rows) == len(rows[0]) else f"{len(rows)}x{len(rows[0])}"
-
-
-def words_of(name):
-    size = table()[name]
-    return f"{size['rows']} × {size['columns']}"
 
 
 # ---- Made
@@ -68,34 +55,55 @@ def digits(count_of_them):
     return "".join(str(k * k % 10) for k in range(count_of_them))
 
 
-def each_is_made():
-    """Each size that the program doesn't write, as it is drawn, what is said of it, and damaged to the limit and past
-    it."""
+def in_each_size(names, line_of, judge):
+    """Symbols of some sizes, as they are drawn, and what is said of them; damage at the limit, past it and across, by
+    the buttons."""
     unfold("form")
-    for name in new_sizes():
+    for name in names:
         size = table()[name]
-        rows, columns, limit = size["rows"], size["columns"], size["limit"]
-        line = digits(2 * size["data"] - 1)
-        write(line, size=name)
-        expect(f"{name} as it is written", grid(), written_in(line, name))
-        expect(f"{name} by its pixels", drawn(columns, rows, 0.5), grid())
-        facts = texts_of("#facts dd")
-        wanted = [words_of(name), str(size["data"]), str(size["check"]), str(limit), "]d1"]
-        expect(f"{name}: facts", facts, wanted)
+        rows, columns, limit, data, blocks = (size[it] for it in ("rows", "columns", "limit", "data", "blocks"))
+        line, checks, at_limit = line_of(size), size["check"] // blocks, [f"{limit} wrong, {limit}"] * blocks
+        clean, is_new = written_in(line, name), name in new_sizes()
+        write(line, size=name if is_new else "square")
+        expect(f"{name} as it is written", grid(), clean if is_new else written(line))
+        expect(f"{name} by its pixels", (drawn(columns, rows, 0.5), coloured()), (clean, []))
+        facts = [words_of(size), str(data), str(size["check"]), str(limit)]
+        expect(f"{name}: facts", (texts_of("#facts dd"), sum("check" in kind for *_, kind in cells())),
+               ([*facts, "]d1"], size["check"]))
         length = lambda modules: f"{round((modules + 4) * 0.5, 2):g}"
         said = f"{length(columns)} × {length(rows)} mm with 2 modules of quiet zone"
         expect(f"{name}: what it prints", text_of("print-size").startswith(said), True)
-        expect(f"{name}: sides", text_of("side-now"), words_of(name))
+        expect(f"{name}: sides", text_of("side-now"), words_of(size))
         push("tab-learn", "to-limit")
-        expect(f"{name} at the limit", shown()["meters"][:-1], [f"{limit} wrong, {limit}"] * size["blocks"])
-        agree_with_judge(f"{name} at the limit, as it is read", line)
-        expect(f"{name}: codewords that are corrected", kinds("corrected"), limit * size["blocks"])
+        expect(f"{name} at the limit", (shown()["meters"][:-1], kinds("corrected")), (at_limit, limit * blocks))
+        judge(f"{name} at the limit, as it is read", line)
+        if max(rows, columns) <= 72:  # in larger ones a module is too small to have a corner without a cross
+            expect(f"{name} damaged, by its pixels", drawn(columns, rows), grid())
         push("one-more")
-        answer = agree_with_judge(f"{name} past the limit")
-        if "fault" in answer:
-            expect(f"{name}: more than can be", f"more than {limit} wrong, {limit}" in shown()["meters"], True)
+        judge(f"{name} past the limit")
+        if shown()["state"] == "Refused":  # one block is beyond, and the others at the limit
+            beyond = shown()["meters"].index(f"more than {limit} wrong, {limit}")
+            count_of = len(range(beyond, data, blocks)) + checks
+            expect(f"{name} coloured", (kinds("beyond"), kinds("corrected")), (count_of, limit * (blocks - 1)))
+        push("undo")
+        expect(f"{name}, one more undone", shown()["meters"][:-1], at_limit)
+        push("undo-all", "scratch")
+        judge(f"{name} scratched")
+        identifier = [] if shown()["state"] == "Refused" else ["]d1"]  # (a scratch may be more than can be corrected)
+        expect(f"{name}, facts", texts_of("#facts dd"), [*facts, *identifier])
         push("undo-all")
-        expect(f"{name} undone", (grid(), coloured()), (written_in(line, name), []))
+        expect(f"{name} undone", (grid(), coloured()), (clean, []))
+
+
+def each_is_made():
+    """Each size that the program doesn't write."""
+    in_each_size(new_sizes(), lambda size: digits(2 * size["data"] - 1), agree_with_judge)
+
+
+def sizes():
+    """Each size that the program writes, which judges it."""
+    letters = lambda size: "".join(random.choice("ABCDEFGHIJKLMNOPQRSTUVWXYZ") for _ in range(size["data"]))
+    in_each_size([name for name in table() if name not in new_sizes()], letters, lambda name, *_: agree(name))
 
 
 def sizes_by_shape():
@@ -111,7 +119,7 @@ def sizes_by_shape():
             for k, line in enumerate(lines):
                 both = symbols[2 * k : 2 * k + 2]
                 write(line, profile, size)
-                told = [f"{it['rows']} × {it['columns']}" if "text" in it else "doesn’t fit" for it in both]
+                told = [words_of(it) if "text" in it else "doesn’t fit" for it in both]
                 name = f"{line[:12]!r} in {size} under profile {profile}"
                 if "text" in both[profile]:
                     expect(name, grid(), in_lines(both[profile]))
@@ -130,7 +138,7 @@ def refusal_in(size):
     whose = {"square": "No square up to 144 × 144 modules holds",
              "rectangle": "No rectangle up to 16 × 48 modules holds",
              "extended": "No rectangle up to 26 × 64 modules holds", "any": "No size holds"}
-    begin = whose.get(size) or f"{words_of(size)} modules don’t hold"
+    begin = whose.get(size) or f"{words_of(table()[size])} modules don’t hold"
     said = text_of("message-hint")
     return said.startswith(f"{begin} this message in this form. It is ") and " too long." in said
 
@@ -152,12 +160,12 @@ def marks_of_every_size():
     contents = 0
     marks = corpus.marks("sizes")
     for mark in marks:
-        head, text, wanted = mark.name, "\n".join(mark.lines), content_of(mark.said)
+        name, text, wanted = mark.name, "\n".join(mark.lines), content_of(mark.said)
         put("grid", text)
-        expect(f"{head}: as it stands", (grid(), shown()["side"]), (text, mark.rows))
+        expect(f"{name}: as it stands", (grid(), shown()["side"]), (text, mark.rows))
         items, numbers = wanted["items"], [it["number"] for it in wanted["marks"]]
         said = {"content": wanted, "told": items, "marks": numbers, "untold": 0}
-        expect(head, (shown()["state"].split(",")[0], run(ANSWERED)), ("Read", said))
+        expect(name, (shown()["state"].split(",")[0], run(ANSWERED)), ("Read", said))
         contents += bool(numbers or wanted["head"])
     sizes = {name_of("\n".join(mark.lines)) for mark in marks}
     expect("every new size is among them", sorted(set(new_sizes()) - sizes), [])
@@ -179,7 +187,7 @@ def in_all_ways():
             light, dark = (40, 210) if inverted else (230, 20)
             said = opened(f"{name}.png", png(rows, scale, around, light, dark))
             expect(f"a picture of {name} {how}, {scale} pixels", (said, grid(), shown()["says"]),
-                         (f"{name}.png: {words_of(name)}. "
+                         (f"{name}.png: {words_of(table()[name])}. "
                           + (f"The symbol is {how}, and shown upright." if how else "Read as it stands."), text, line))
     text = written_in("Rectangle", "8x32")
     beyond = "".join("0" if module == "1" and k % 32 and k < 224 else module for k, module in enumerate(flat(text)))
@@ -190,36 +198,31 @@ def in_all_ways():
                   "turned a quarter to the right.", lines))
 
 
+MIRROR, INVERSE = "mirrored left to right", "inverted, light for dark"
+AT_AN_ANGLE = [
+    # (a size, a message, the degrees, how it stands besides, the greys of the ground and of what is dark, and specks)
+    ("12x36", "At an angle", 8, "", 235, 20, 0), ("16x48", "A longer one at an angle", -20, "", 235, 20, 0),
+    ("8x32", "Rectangle", 5, "", 235, 20, 0), ("16x36", "Mirrored", 12, MIRROR, 235, 20, 0),
+    ("12x26", "Inverted", -7, INVERSE, 20, 235, 0), ("26x48", "Both", 100, f"{INVERSE}, and {MIRROR}", 20, 235, 0),
+    ("16", "Turned about", 25, "", 220, 40, 0), ("16", "Turned about", 25, INVERSE, 60, 220, 0),
+    ("16", "Turned about", 25, MIRROR, 220, 40, 0), ("16", "Turned about", 25, "", 220, 40, 19),
+]
+
+
 def at_an_angle():
-    """Rectangles in pictures that stand at an angle, some of them mirrored or inverted."""
+    """Symbols in pictures that stand at an angle, some of them mirrored or inverted, or with dark specks."""
     push("tab-read")
-    mirror, inverse = "mirrored left to right", "inverted, light for dark"
-    for name, line, degrees, how in (("12x36", "At an angle", 8, ""), ("16x48", "A longer one at an angle", -20, ""),
-                                     ("8x32", "Rectangle", 5, ""), ("16x36", "Mirrored", 12, mirror),
-                                     ("12x26", "Inverted", -7, inverse),
-                                     ("26x48", "Both of these", 100, f"{inverse}, and {mirror}")):
-        text = written_in(line, name)
-        rows = turned(text, 0, mirror in how, inverse in how).split("\n")
-        said = opened(f"{name}.png", slanted(rows, 9, degrees, 20 if inverse in how else 235))
-        side = "left" if degrees < 0 else "right"
+    for name, line, degrees, how, *greys in AT_AN_ANGLE:
+        text, side = written_in(line, name), "left" if degrees < 0 else "right"
+        rows, turn = turned(text, 0, MIRROR in how, False).split("\n"), math.radians(degrees)
+        across, down = 9 * len(rows[0]), 9 * len(rows)
+        length = round(math.hypot(across, down)) + 80
+        placed = [(rows, ((length - across) / 2, (length - down) / 2))]
+        said = opened(f"{name}.png", scene(length, length, placed, (math.cos(turn), math.sin(turn)), 9, *greys))
         stands = ", and ".join(filter(None, [how, f"turned by {abs(degrees)}° to the {side}"]))
-        found = f"{name}.png: {words_of(name)}. The symbol is {stands}, and shown upright."
-        expect(f"{name} at {degrees} degrees", (shown()["says"], grid(), said), (line, text, found))
-
-
-def slanted(rows, scale, degrees, ground):
-    """The picture of a grid that is turned by so many degrees, on a ground of this grey."""
-    down, across = len(rows), len(rows[0])
-    cosine, sine = math.cos(math.radians(degrees)), math.sin(math.radians(degrees))
-    reach = lambda one, other: int(scale * (one * abs(cosine) + other * abs(sine) + 8) * 1.1)
-    width, height = reach(across, down), reach(down, across)
-
-    def pixel(x, y):
-        dx, dy = (x - width / 2) / scale, (y - height / 2) / scale
-        c, r = math.floor(dx * cosine + dy * sine + across / 2), math.floor(dy * cosine - dx * sine + down / 2)
-        return (235, 20)[int(rows[r][c])] if 0 <= r < down and 0 <= c < across else ground
-
-    return chunks(width, height, b"".join(b"\0" + bytes(pixel(x, y) for x in range(width)) for y in range(height)))
+        found = f"{name}.png: {words_of(table()[name])}. The symbol is {stands}, and shown upright."
+        expect(f"{name} at {degrees} degrees, {greys}", (shown()["state"], shown()["says"], grid(), said),
+               ("Read", line, text, found))
 
 
 # ---- Linked and compared
@@ -248,8 +251,7 @@ def rectangles_are_linked():
     expect("the link", (had["size"], had["grid"].startswith("8.32."), "doubtful" in had), ("12x36", True, True))
     reload()
     expect("after a reload", (run(kept), shown()["says"]), (before, "Rectangle"))
-    expect("its size is chosen", run("return ['shape', 'size'].map((it) => document.getElementById(it).value)"),
-           ["one", "12x36"])
+    expect("its size is chosen", (value_of("shape"), value_of("size")), ("one", "12x36"))
     push("undo")
     expect("and its damage undone", grid(), text)
     for name in ("rectangle", "extended", "any", "square"):
@@ -276,21 +278,6 @@ def put_grid(text):
     put("grid", text)
 
 
-def rectangles_are_compared():
-    """A rectangle and a square, in the slots: whether they say the same."""
-    push("tab-read")
-    unfold("comparison")
-    one, same = written_in("Rectangle", "8x32"), "Yes, they say the same."
-    for a, b, wanted in ((one, written_in("Rectangle", "square"), same),
-                         (one, turned(written_in("Rectangle", "16x48"), 1, True, True), same),
-                         (one, written_in("Rectangles", "8x32"), "No, they say different things.")):
-        fill("a", a)
-        fill("b", b)
-        expect(f"{name_of(a)} and {name_of(b)}", head()[0], wanted)
-    said = run("return document.querySelector('#slot-a svg').getAttribute('aria-label')")
-    expect("what is said of the symbol", said, "Symbol A, of 8 × 32 modules")
-
-
 # ---- Doubtful modules
 
 
@@ -310,22 +297,15 @@ def doubted():
     click(100, side=48, rows=16)
     expect("a click", (doubts(), grid()), ([100], clean))
     agree_with_judge("a click, as it is read", line)
-    at = lambda cell: offset(cell, 48, 16)
-    chain = acting().move_to_element_with_offset(find("symbol"), *at(150)).click_and_hold()
-    chain.move_to_element_with_offset(find("symbol"), *at(154)).release().perform()
-    settle()
+    drag(150, 154, side=48, rows=16)
     expect("a drag", doubts(), [100, 150, 151, 152, 153, 154])
     agree_with_judge("a drag, as it is read", line)
     expect("what is marked is in the legend", "doubtful" in text_of("legend"), True)
-    chain = acting().move_to_element_with_offset(find("symbol"), *at(151)).click_and_hold()
-    chain.move_to_element_with_offset(find("symbol"), *at(153)).release().perform()
-    settle()
+    drag(151, 153, side=48, rows=16)
     expect("a drag from a doubtful one takes doubt away", doubts(), [100, 150, 154])
     push("undo")
     expect("undone", doubts(), [100, 150, 151, 152, 153, 154])
-    chain = acting().move_to_element_with_offset(find("symbol"), *at(149)).click_and_hold()
-    chain.move_to_element_with_offset(find("symbol"), *at(151)).release().perform()
-    settle()
+    drag(149, 151, side=48, rows=16)
     expect("a drag over doubtful ones leaves them so", doubts(), [100, 149, 150, 151, 152, 153, 154])
     push("undo", "undo", "undo", "undo")
     expect("all undone", (doubts(), grid()), ([], clean))
@@ -365,13 +345,11 @@ def doubted_by_keys():
     write("123456")
     push("tab-learn", "brush-doubt")
     run("document.getElementById('symbol').focus()")
-    for key in ("\ue014", "\ue015", " "):  # right, down, space
-        on.page.switch_to.active_element.send_keys(key)
-        settle()
+    for key in (Keys.ARROW_RIGHT, Keys.ARROW_DOWN, Keys.SPACE):
+        send(key)
     cursor = run("return [mitsubadoor.mark.cursor, mitsubadoor.mark.doubtful?.[mitsubadoor.mark.cursor] ?? 0]")
     expect("by keys", (cursor[1], "doubtful" in text_of("spoken")), (1, True))
-    on.page.switch_to.active_element.send_keys(" ")
-    settle()
+    send(Keys.SPACE)
     expect("and back", run("return mitsubadoor.mark.doubtful"), None)
     push("brush-turn")
 
@@ -428,71 +406,6 @@ def damaged_at_random():
         agree_with_judge(f"{name} at random", None)
 
 
-# ---- Given
-
-
-def labels_of_rectangles():
-    """Rectangles on labels and pages, measured in the PDF; their files, with the text below them."""
-    begin("50x30")
-    write("Label", size="rectangle")
-    lines = ["one", "Rectangle 2", "3333333333", "rectangle"]
-    put("messages", "\n".join(lines))
-    grids = [written_in(line, "rectangle") for line in lines]
-    pages, *_ = in_pdf()
-    for line, text, (size, symbols, texts) in zip(lines, grids, pages):
-        rows = text.split("\n")
-        wide, high = (len(rows[0]) + 2 * QUIET) * 0.4, (len(rows) + 2 * QUIET) * 0.4
-        x, y = (50 - wide) / 2 + QUIET * 0.4, (30 - high - 3) / 2 + QUIET * 0.4
-        ((left, top, module, drawn_there),) = symbols
-        expect(f"a label of {line}: its size and text", (size, texts), ([50, 30], [line]))
-        expect(f"a label of {line}: where it stands", [round(it, 2) for it in (left, top, module)],
-               [round(x, 2), round(y, 2), 0.4])
-        expect(f"a label of {line}: its modules", drawn_there, text)
-    choose("stock", "none")
-    paper_is("label", "0.4")
-    pages, *_ = in_pdf()
-    length = lambda modules, more=0: round((modules + 4) * 0.4 + more, 2)
-    wanted = [[20, length(text.count("\n") + 1, 3)] for text in grids]
-    expect("pages as large as they are", [size for size, _, _ in pages], wanted)
-    in_files(lines, grids)
-    ((size, ((*_, rows),), _),) = pages_of(saved("symbol-8x18.pdf", "save-pdf"))
-    expect("one in a PDF", (size, rows), ([8.8, 4.8], written_in("Label", "rectangle")))
-
-
-def in_files(lines, grids):
-    for ending in ("svg", "png"):
-        files = archived(ending)
-        expect(f"names of {ending}", [*files],
-               [f"{k + 1:03}-symbol-{name_of(text)}.{ending}" for k, text in enumerate(grids)])
-        for line, text, body in zip(lines, grids, files.values()):
-            rows = text.split("\n")
-            high = round((len(rows) + 4) * 0.4 + 3, 2)
-            if ending == "svg":
-                size, text_there = f'width="20mm" height="{high:g}mm"', f">{line}</title>"
-                drawing = body.decode()
-                expect(f"SVG of {line}", (size in drawing, text_there in drawing), (True, True))
-            else:
-                each = 10  # pixels of a module
-                size = [int.from_bytes(body[at : at + 4], "big") for at in (16, 20)]
-                down = (len(rows) + 4) * each
-                expect(f"PNG of {line}", size, [500, down + 75])
-                expect(f"PNG of {line}: its text", inked_below(body, down), True)
-            read_again(f"label.{ending}", body, line, text)
-
-
-def inked_below(body, row):
-    """Whether a picture has something dark below a row of its pixels, as the browser opens it."""
-    return on.page.execute_async_script("""const [picture, row, done] = arguments, image = new Image();
-           image.src = "data:image/png;base64," + picture;
-           image.decode().then(() => {
-               const { naturalWidth: width, naturalHeight: height } = image;
-               const pen = Object.assign(document.createElement("canvas"), { width, height }).getContext("2d");
-               pen.drawImage(image, 0, 0);
-               const { data } = pen.getImageData(0, row, width, height - row);
-               done(data.some((value, k) => k % 4 === 0 && value < 128));
-           });""", base64.b64encode(body).decode(), row)
-
-
 # ---- Told
 
 
@@ -521,5 +434,5 @@ def lessons():
         expect(f"{name}: regions", f"This size has {regions} regions" in text_of("step"), regions > 1)
 
 
-PARTS = [each_is_made, sizes_by_shape, marks_of_every_size, in_all_ways, at_an_angle, rectangles_are_linked,
-         rectangles_are_compared, doubted, damaged_at_random, labels_of_rectangles, lessons]
+PARTS = [each_is_made, sizes, sizes_by_shape, marks_of_every_size, in_all_ways, at_an_angle, rectangles_are_linked,
+         doubted, damaged_at_random, lessons]

@@ -1,11 +1,13 @@
 """What the parts of the page's test have in common: the program, the page in its browser, and what was compared."""
 import contextlib
+import csv
+import io
 import pathlib
 import re
-import shutil
 import subprocess
-import sys
 import time
+
+from tests.support import package
 
 DEBIANS = "/usr/bin/python3"
 try:
@@ -21,7 +23,6 @@ except ImportError:
     webdriver = ActionChains = By = Keys = RemoteConnection = Service = UselessFileDetector = WebKitService = None
 
 QUIET = 2
-LIBRARY = pathlib.Path(__file__).resolve().parents[2] / "library"
 LEFT_OUT = {"structured append": 233, "reader programming": 234, "macro 05": 236, "macro 06": 237}
 
 # What the page shows, as plain text: the verdict (of a symbol that is made as of one that is read), the meters and the
@@ -35,6 +36,13 @@ SHOWN = """
              charset: one("#says").dataset.text ?? null,
              side: parseInt(one("#facts dd")?.textContent),
              meters: meters.map((it) => it.replace(/ (can be corrected|accepted)$/, "")) };"""
+
+# The same of a grid; what its codewords stand for, if it is read; and whether each has its own.
+LOOKED = f"""
+    const shown = () => {{ {SHOWN} }}, {{ mark, idle, spelled }} = mitsubadoor;
+    if (mark.limit === "auto") {{ at("usual").click(); await idle(); }} // which the program hasn't
+    const {{ answer, told, size }} = mark.seen;
+    return [shown(), answer.fault ? null : spelled(told.flatMap((it) => it.items)), told?.length === size?.data];"""
 
 
 class On:
@@ -111,31 +119,16 @@ def told(grids, *more):
 # ---- Element strings
 
 
-def rules():
-    """The module gs1 of library/python over the common table, without the library below it, in a package of another
-    name: ecc200 is the one that the tests of the Python package import in this process."""
-    package = on.folder / "rules" / "rules_of_gs1"
-    if not package.exists():
-        package.mkdir(parents=True)
-        shutil.copy(LIBRARY / "python" / "ecc200" / "gs1.py", package)
-        shutil.copytree(LIBRARY / "python" / "ecc200" / "data", package / "data")
-        (package / "core.py").write_text("FNC1 = 256\n")
-        (package / "__init__.py").write_text("")
-        sys.path.insert(0, str(package.parent))
-    from rules_of_gs1 import gs1
-
-    return gs1
-
-
-def spelled(data):
-    """Bytes as the program spells them."""
-    plain = lambda byte: 32 <= byte <= 126 and byte != 92
-    return "".join(chr(byte) if plain(byte) else "\\\\" if byte == 92 else f"\\x{byte:02X}" for byte in data)
+def spelled(items):
+    """Items as the program spells them."""
+    plain = lambda item: 32 <= item <= 126 and item != 92
+    special = {92: "\\\\", 256: "\\F"}
+    return "".join(chr(item) if plain(item) else special.get(item) or f"\\x{item:02X}" for item in items)
 
 
 def line_of(text):
     """The program's line for what the page shows as an element string, whatever its values are."""
-    elements, table = re.findall(r"\((\d+)\)((?:\\.|[^(\\])*)", text), rules().identifiers()
+    elements, table = re.findall(r"\((\d+)\)((?:\\.|[^(\\])*)", text), package.imported().gs1.identifiers()
     assert "".join(f"({identifier}){value}" for identifier, value in elements) == text, text
     plain = lambda value: re.sub(r"\\(.)", lambda found: "(" if found[1] == "(" else found[0], value)
     ends = ["" if table[identifier].fixed else "\\F" for identifier, _ in elements[:-1]] + [""]
@@ -194,11 +187,15 @@ def find(name):
     return on.page.find_element(By.ID, name)
 
 
+def performance():
+    """What the browser counts of the page, by its names."""
+    on.page.execute_cdp_cmd("Performance.enable", {})
+    return {it["name"]: it["value"] for it in on.page.execute_cdp_cmd("Performance.getMetrics", {})["metrics"]}
+
+
 def processor_time():
     """Milliseconds of a processor that the page has taken, whatever else the machine does."""
-    on.page.execute_cdp_cmd("Performance.enable", {})
-    metrics = on.page.execute_cdp_cmd("Performance.getMetrics", {})["metrics"]
-    return 1000 * next(it["value"] for it in metrics if it["name"] == "ProcessTime")
+    return 1000 * performance()["ProcessTime"]
 
 
 def text_of(name):
@@ -235,9 +232,10 @@ def texts_of(where):
     return run("return [...document.querySelectorAll(arguments[0])].map((it) => it.textContent)", where)
 
 
-def press(where, number=0):
-    """Clicks one of the elements that a selector names."""
-    do("document.querySelectorAll(given[0])[given[1]].click()", where, number)
+def press(where, which=0):
+    """Clicks one of the elements that a selector names, by its number, from the end if negative, or by its text."""
+    do("const all = [...document.querySelectorAll(given[0])];"
+       "(all.find((it) => it.textContent === given[1]) ?? all.at(given[1])).click()", where, which)
 
 
 def focused():
@@ -258,6 +256,25 @@ def give(field, name, body=None):
         file.write_bytes(body)
     find(field).send_keys(str(file))
     return file
+
+
+def saved(name, button):
+    """The file that a button saves, once it has stopped growing."""
+    file, sizes = on.folder / name, [0]
+    file.unlink(missing_ok=True)
+    push(button)
+
+    def is_whole():
+        sizes.append(file.stat().st_size if file.exists() else 0)
+        return 0 < sizes[-1] == sizes[-2]
+
+    wait_for(is_whole)
+    return file.read_bytes() if file.exists() else b""
+
+
+def table_saved():
+    """The rows of the CSV of what was found, as it is saved."""
+    return list(csv.reader(io.StringIO(saved("found.csv", "found-csv").decode("utf-8-sig"))))
 
 
 def shown():
@@ -312,6 +329,17 @@ def do(script, *arguments):
 def put(where, text):
     """Gives a field a value as typing does, but all at once."""
     do("put(...given)", where, text)
+
+
+def after_each(name, texts, script):
+    """What a script gives after each of these texts, which are put into a field one after the other."""
+    with unseen():
+        return on.page.execute_async_script(f"""{ACTS} const [name, texts, done] = arguments, told = [];
+            const tell = async () => {{ {script} }};
+            (async () => {{
+                for (const text of texts) {{ put(name, text); await mitsubadoor.idle(); told.push(await tell()); }}
+                done(told);
+            }})();""", name, texts)
 
 
 def push(*names):
@@ -491,6 +519,16 @@ def click(*cells, side=10, rows=None):
         settle()
 
 
+def drag(*cells, side=10, rows=None):
+    """Drags the mouse from one module over others."""
+    first, *others = [offset(cell, side, rows) for cell in cells]
+    chain = acting().move_to_element_with_offset(find("symbol"), *first).click_and_hold()
+    for place in others:
+        chain.move_to_element_with_offset(find("symbol"), *place)
+    chain.release().perform()
+    settle()
+
+
 # Seconds that a thing may take to come, on however busy a machine; and where bugs are planted.
 LONGEST, LONGEST_OF_BUGS = 60, 20
 
@@ -547,9 +585,8 @@ def drawn_rows(content, height, scale):
     rows = [["0"] * columns for _ in range(down)]
     for x, y, width, tall in numbers:
         assert abs(tall - module) < 0.001, content
-        row, column = round((height - y - tall - top) / module), round((x - left) / module)
-        for k in range(round(width / module)):
-            rows[row][column + k] = "1"
+        row, column, length = (round(it / module) for it in (height - y - tall - top, x - left, width))
+        rows[row][column : column + length] = "1" * length
     return [left, top, module, "\n".join("".join(row) for row in rows)]
 
 
@@ -563,6 +600,7 @@ def coloured():
 
 def cells():
     """What each codeword's cell shows: its value, what it is corrected to, and its colour."""
+    unfold("details")
     got = run("""return [...document.querySelectorAll('#words > b')]
         .map((b) => [b.firstChild.textContent, (b.querySelector('small') || b).textContent, b.className])""")
     return [(int(held), int(below[1:]) if below.startswith("→") else int(held), kind) for held, below, kind in got]
@@ -570,6 +608,7 @@ def cells():
 
 def pointed(words=None):
     """Points at these codewords, or at all: what is told of each, and the numbers in the symbol with their places."""
+    unfold("details")
     return run("""
         const [words] = arguments, cells = [...document.querySelectorAll("#words > b")];
         const number = (bit, name) => Math.floor(bit.getAttribute(name));

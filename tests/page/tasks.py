@@ -3,9 +3,9 @@ stands, what GS1 data looks like, and that only where one learns a symbol is dam
 from tests.page.conduct import go, linked, verdict
 from tests.page.history import fields
 from tests.page.judge import line_of_text, written_in
-from tests.page.stage import (COLLECT, acting, agree, box, changed, click, expect, find, grid, is_seen, learn, offset,
-                              on, push, put, reload, run, settle, shown, soon, spelled, task, text_of, texts_of, unfold,
-                              usable, value_of, visit, write, written)
+from tests.page.stage import (COLLECT, Keys, acting, agree, box, changed, choose, click, expect, find, grid, is_seen,
+                              learn, offset, on, press, push, put, reload, run, send, shown, soon, spelled, task,
+                              text_of, texts_of, unfold, usable, value_of, visit, write, written)
 
 ELEMENTS = "(01)09506000134352(17)271231(10)AB-42"
 LINE = "\\F010950600013435217271231" + "10AB-42"
@@ -67,9 +67,7 @@ def text_and_gs1():
     shown. What is copied is what a person would type."""
     push("profile-0")
     run(COLLECT)
-    chips = {it.text: it for it in find("pane-make").find_elements("css selector", "[data-message]")}
-    chips["Text"].click()
-    settle()
+    press("#pane-make [data-message]", "Text")
     line = spelled(TEXT.encode("iso-8859-1"))
     expect("text", (grid(), find("kind-typed").is_selected()), (written(line), True))
     agree("text, as it is read")
@@ -99,8 +97,7 @@ def text_and_gs1():
     expect("too much text", (verdict(), "25,001 characters" in text_of("message-hint")),
            (("Nothing is read", ""), True))
     run(COLLECT)
-    find("pane-make").find_element("css selector", "[data-message^='(01)']").click()
-    settle()
+    press("#pane-make [data-message]", "GS1")
     agree("GS1 data, as it is read")
     expect("GS1 data", (grid(), shown()["says"], find("kind-typed").is_selected()), (written(LINE), ELEMENTS, True))
     push("copy-message", "print")
@@ -113,9 +110,7 @@ def text_and_gs1():
     expect("what is copied", run("return copied"), [ELEMENTS])
     push("tab-make")
     write("caf\u00e9")
-    buttons = {it.text: it for it in find("message-hint").find_elements("css selector", "button")}
-    buttons["Take it as text"].click()
-    settle()
+    press("#message-hint button", "Take it as text")
     expect("taken as text", (grid(), shown()["state"]), (written("caf\\xE9"), "Read"))
     run("delete navigator.clipboard.writeText")
     for line in ("\\F01095060001343521" + "0AB\\F", "\\F0512", "\\F10A\\F\\F21B", "\\F10A\\x1D21B", "\\F10A(B)",
@@ -149,8 +144,7 @@ def typed():
         push("copy-message")
     expect("what is copied", run("return copied"), [says for _, _, _, says in TYPED])
     put("message", "\\F01 \\x41")
-    find("message-hint").find_element("css selector", "button").click()
-    settle()
+    press("#message-hint button")
     expect("taken as spelled", (find("kind-message").is_selected(), grid()), (True, written("\\F01 A")))
     push("kind-typed")
     for text, why in (("(note) of 5", "Column 1 opens a bracket that holds no identifier, such as (01)."),
@@ -159,15 +153,12 @@ def typed():
         hint = text_of("message-hint")
         expect(f"{text!r} is no GS1 data", (hint.startswith(why), hint.endswith("Take it as text"), verdict()),
                (True, True, ("Nothing is read", "")))
-        find("message-hint").find_elements("css selector", "button")[-1].click()
-        settle()
+        press("#message-hint button", -1)
         expect(f"{text!r} as text", (find("kind-text").is_selected(), shown()["says"]), (True, text))
         push("kind-typed")
     unfold("sheet")
     put("messages", "message,text\nGr\u00f6\u00dfe 5,Gr\u00f6\u00dfe\n\u00b5m,")
-    run("""const as = document.getElementById('lines-as');
-           as.value = 'csv';
-           as.dispatchEvent(new Event('change'))""")
+    choose("lines-as", "csv")
     told = lambda: texts_of("#labels-are code")
     soon("text in CSV", told, ["Gr\u00f6\u00dfe 5", "\u00b5m"])
 
@@ -181,8 +172,7 @@ def damaged_only_where_one_learns():
             put("grid", clean)
         acting().move_to_element_with_offset(find("symbol"), *offset(33, 10)).click().perform()
         run("document.querySelector('.skip').click()")
-        on.page.switch_to.active_element.send_keys(" ")
-        settle()
+        send(Keys.SPACE)
         symbol = find("symbol")
         expect(f"{name}: a click and a key", (grid(), usable("undo"), symbol.get_attribute("role")),
                (clean, False, "img"))

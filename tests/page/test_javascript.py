@@ -78,11 +78,6 @@ def members_of(layout):
 @needs.page
 @needs.program
 class JavaScript(Case):
-    @classmethod
-    def setUpClass(cls):
-        if problem := needs.made("page"):
-            raise AssertionError(problem)
-
     def test_uses(self):
         on.program, on.module, count.rows = places.PROGRAM, places.path("web", "out", "ecc200.mjs"), []
         uses()

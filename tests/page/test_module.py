@@ -9,6 +9,7 @@ import sys
 
 from tests.library.library import compiled
 from tests.page import judge
+from tests.page.stage import spelled
 from tests.support import commands, needs, places
 from tests.support.case import Case
 
@@ -64,8 +65,6 @@ def damaged(named, symbol, modules):
 class Module(Case):
     @classmethod
     def setUpClass(cls):
-        if problem := needs.made("page"):
-            raise AssertionError(problem)
         cls.recorder, problem = compiled(places.path("tests", "page", "recorded.c"), cls.folder_of_class())
         if problem:
             raise AssertionError(problem)
@@ -90,7 +89,7 @@ class Module(Case):
         places = judge.judged([{"isMap": True, **judge.how_in(name)} for name in sizes])
         rows = [row for each in zip(sizes.items(), symbols, places) for row in damaged(*each)]
         for (name, what, _, wanted), answer in zip(rows, judge.judged([question for _, _, question, _ in rows])):
-            answer = {**answer, "items": judge.line_of_items(answer.get("items", []))}
+            answer = {**answer, "items": spelled(answer.get("items", []))}
             wanted = {"items": lines[name], "border": 0, **wanted} if "fault" not in wanted else wanted
             self.row(f"{name}, {what}", {key: answer.get(key) for key in wanted}, wanted)
 

@@ -22,8 +22,6 @@ class Page(Case):
 
     @classmethod
     def setUpClass(cls):
-        if problem := needs.made("page"):
-            raise AssertionError(problem)
         cls.pool, cls.told = cls.enterClassContext(crew.at_work()), {}
         for part in PARTS:
             if part.__name__ in cls.chosen:

@@ -4,15 +4,17 @@ import json
 import os
 import pathlib
 import subprocess
+from unittest import mock
 
-from tests.support import commands, needs, places
+from tests.page.photographs import made
+from tests.page.stage import DEBIANS, on
+from tests.support import commands, needs, package, places
 from tests.support.case import Case
 
 FINDER = ["node", places.path("tests", "page", "finder.mjs")]
 LIBRARY, SAMPLER = (places.path("web", "out", name) for name in ("lowered.wasm", "sampler.wasm"))
-MAKER = places.path("bench", "photographs")
-DEBIANS = "/usr/bin/python3"
-SHARE = 29  # of each kind every so many
+NATIVE = os.environ.get("ECC200_SAMPLE_LIBRARY") or places.path("sampler", "out", "libecc200_sample.so")
+SHARE = 67  # of each kind every so many
 NEAR = 0.001  # pixels, by which corners may differ: libraries of C compute sines and roots a little differently
 LATE = 400  # milliseconds of a processor by which a search may end after its time, with what the engine does beside it
 KINDS = ["noise", "grey", "stripes", "squares", "weave"]
@@ -28,55 +30,44 @@ def found(questions, sampler=SAMPLER):
 
 
 def differing(here, there):
-    """In what two symbols differ, if they do."""
-    same = [name for name in ("rows", "columns", "limit", "isInverted", "isMirrored", "modules",
-                              "items") if here[name] != there[name]]
-    doubtful = here["doubtful"] or "0" * len(here["modules"])
-    far = [abs(one - other) for (x, y), corner in zip(there["corners"], here["corners"]) for one,
+    """In what a symbol differs from the one that was found natively, if it does."""
+    text = lambda rows: "".join(str(module) for row in rows for module in row)
+    modules, none = text(there.rows), "0" * len(here["modules"])
+    wanted = {"rows": len(there.rows), "columns": len(there.rows[0]), "limit": there.border_limit,
+              "isInverted": there.inverted, "isMirrored": there.mirrored, "modules": modules,
+              "items": list(there.answer.items), "doubtful": text(there.doubtful or ()) or none}
+    got = {**here, "doubtful": here["doubtful"] or none}
+    far = [abs(one - other) for (x, y), corner in zip(there.corners, here["corners"]) for one,
            other in ((x, corner["x"]), (y, corner["y"]))]
-    return same + ["doubtful"] * (doubtful != there["doubtful"]) + ["corners"] * (max(far) > NEAR)
+    return [name for name in wanted if got[name] != wanted[name]] + ["corners"] * (max(far) > NEAR)
+
+
+def natively(file):
+    """What the library ecc200_sample finds in a picture."""
+    _, size, _, pixels = file.read_bytes().split(b"\n", 3)
+    width, height = map(int, size.split())
+    with mock.patch.dict(os.environ, ECC200_SAMPLE_LIBRARY=NATIVE):
+        return package.imported().find(memoryview(pixels).cast("B", (height, width)), 64)
 
 
 @needs.page
 @needs.library
 @needs.program
-@needs.programs("cc")
 class Sampler(Case):
-    @classmethod
-    def setUpClass(cls):
-        if problem := needs.made("page"):
-            raise AssertionError(problem)
-
-    def natively(self, pictures):
-        """What the same sources find as native code."""
-        program, sampler = os.path.join(self.folder(), "found"), pathlib.Path(places.path("sampler"))
-        status, said = commands.said(["cc", "-std=c17", "-D_POSIX_C_SOURCE=200809L", "-O2", f"-I{places.LIBRARY}",
-                                      f"-I{sampler}", *map(str, sampler.glob("*.c")),
-                                      places.path("tests", "page", "found.c"), places.ARCHIVE, "-lm", "-o", program])
-        self.assertEqual((status, said), (0, ""))
-        lines = subprocess.run([program, *pictures], stdout=subprocess.PIPE, timeout=600, check=True).stdout
-        return [json.loads(line) for line in lines.splitlines()]
-
     def test_the_same_as_natively(self):
         """Of a part of the photographs' set, the same symbols in the same order: modules, doubtful ones, what they say,
         border limits and corners."""
-        folder = pathlib.Path(self.folder())
-        for kind in ([], ["--hard"]):
-            done = subprocess.run([DEBIANS, MAKER, "--program", places.PROGRAM, "--share", str(SHARE), *kind,
-                                   folder / "-".join(["set", *kind])], stderr=subprocess.DEVNULL, timeout=900,
-                                  check=False)
-            if done.returncode:
-                self.skipTest("no photographs can be made (python3-opencv or python3-numpy isn't installed)")
-        pictures = [str(self.in_grey(file)) for file in sorted(folder.glob("set*/*.jpg"))]
-        there = self.natively(pictures)
-        here = found([{"file": file, "most": 64} for file in pictures])
-        for file, some, other in zip(pictures, here, there):
-            others = other["symbols"]
-            self.row(os.path.basename(file),
-                     ([differing(*each) for each in zip(some["symbols"], others)], len(some["symbols"]),
-                      some["isComplete"]), ([[]] * len(others), len(others), other["isComplete"]))
-        symbols = sum(len(other["symbols"]) for other in there)
-        self.assertGreaterEqual(symbols, len(pictures) * 3 // 4, "symbols that are compared")
+        on.program, on.folder = places.PROGRAM, pathlib.Path(self.folder())
+        sets = [made("usual", SHARE), made("hard", SHARE, "--hard")]
+        if not all(pictures for _, pictures in sets):
+            self.skipTest("no photographs can be made (python3-opencv or python3-numpy isn't installed)")
+        self.assertIsNone(needs.made("sampler"))
+        pictures = [self.in_grey(folder / picture["file"]) for folder, some in sets for picture in some]
+        there = [natively(file) for file in pictures]
+        for file, some, others in zip(pictures, found([{"file": str(file), "most": 64} for file in pictures]), there):
+            self.row(file.name, ([differing(*each) for each in zip(some["symbols"], others)], len(some["symbols"]),
+                                 some["isComplete"]), ([[]] * len(others), len(others), others.complete))
+        self.assertGreaterEqual(sum(map(len, there)), len(pictures) * 3 // 4, "symbols that are compared")
 
     def in_grey(self, file):
         """A picture as PGM."""

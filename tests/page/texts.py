@@ -1,9 +1,9 @@
 """Messages, profiles, grids as text, marks of other encoders, and two symbols compared."""
 from tests import corpus
 from tests.page.pictures import png
-from tests.page.stage import (WAYS, By, Keys, agree, as_program, attribute, expect, fill, find, grid, head, is_wide, on,
-                              push, put, run, settle, shown, text_of, told, turned, unfold, unseen, value_of, write,
-                              written)
+from tests.page.stage import (LOOKED, WAYS, By, Keys, after_each, agree, as_program, attribute, expect, fill, find,
+                              grid, head, is_wide, on, press, push, put, run, settle, shown, text_of, texts_of, told,
+                              turned, unfold, value_of, write, written)
 
 
 def spellings():
@@ -26,11 +26,9 @@ def spellings():
                         ("100 \u20ac", {"as UTF-8": "100 \\xE2\\x82\\xAC"}), ("a\nb", {"as bytes": "a\\x0Ab"})):
         for way, wanted in spelt.items():
             write(text)
-            buttons = {button.text: button for button in find("message-hint").find_elements(By.TAG_NAME, "button")}
             offered = sorted(["Take it as text", *(f"Spell it {each}" for each in spelt)])
-            expect(f"ways to spell {text!r}", sorted(buttons), offered)
-            buttons[f"Spell it {way}"].click()
-            settle()
+            expect(f"ways to spell {text!r}", sorted(texts_of("#message-hint button")), offered)
+            press("#message-hint button", f"Spell it {way}")
             expect(f"{text!r} {way}", value_of("message"), wanted)
     write("A" * 10)
     find("message").send_keys(Keys.ENTER)
@@ -119,31 +117,16 @@ def other_encoders():
     """The marks of other encoders: what is shown, and what each of their codewords stands for."""
     grids = [mark.text for mark in (*corpus.marks("squares"), *corpus.marks("shifts"))]
     push("tab-read")
-    answers = told(grids)
-    with unseen():
-        for text, answer in [(text, answer) for text, answer in zip(grids, answers) if not is_wide(answer)]:
-            put("grid", text)
-            name = f"mark of another encoder, {answer[0][:20]}"
-            expect(name, as_program(shown()), answer)
-            if shown()["state"] != "Refused":
-                expect(f"{name}: its codewords",
-                       run("return mitsubadoor.spelled(mitsubadoor.mark.seen.told.flatMap((it) => it.items))"),
-                       answer[0])
-                expect(f"{name}: one for each",
-                       run("const { told, size } = mitsubadoor.mark.seen; return told.length === size.data"), True)
-        wide_marks()
-
-
-def wide_marks():
-    """Marks in EDIFACT and with macros: what is read is what was written, and so is what their codewords stand for."""
-    marks = corpus.marks("wide")
+    for answer, (seen, stands, is_whole) in zip(told(grids), after_each("grid", grids, LOOKED)):
+        if not is_wide(answer):
+            name, refusal = f"mark of another encoder, {answer[0][:20]}", answer[0].startswith("refused")
+            expect(name, as_program(seen), answer)
+            expect(f"{name}: its codewords", (stands, is_whole or refusal), (None if refusal else answer[0], True))
+    marks = corpus.marks("wide")  # in EDIFACT and with macros, which the program leaves out
     expect("how many", len(marks), 109)
-    for mark in marks:
-        message = mark.said
-        put("grid", mark.text)
-        stands = run("return mitsubadoor.spelled(mitsubadoor.mark.seen.told.flatMap((it) => it.items))")
-        expect(f"wide mark {message[:20]}", (shown()["state"].split(",")[0], as_program(shown())[0], stands),
-               ("Read", message, message))
+    for mark, (seen, stands, _) in zip(marks, after_each("grid", [mark.text for mark in marks], LOOKED)):
+        expect(f"wide mark {mark.said[:20]}", (seen["state"].split(",")[0], as_program(seen)[0], stands),
+               ("Read", mark.said, mark.said))
 
 
 def compared():
@@ -151,33 +134,28 @@ def compared():
     unfold("comparison")
     expect("same", head(), ["Yes, they say the same.", "Their modules differ, but both have this one normal grid:"])
     expect("one normal grid", len(find("same").find_elements(By.TAG_NAME, "svg")), 1)
-
-    def take(slot):
-        run("arguments[0].click()", find(f"slot-{slot}").find_element(By.TAG_NAME, "button"))
-        settle()
-
+    take = lambda slot: press(f"#slot-{slot} button")
     write("another")
     take("a")
     expect("different", (head(), len(find("same").find_elements(By.TAG_NAME, "svg"))),
            (["No, they say different things.", "Their normal grids differ:"], 2))
-    fill("b", "1" * 10 + "\n" + "0" * 9)
-    expect("no grid", head(), ["No answer", "Symbol B isn’t a grid."])
-    fill("b", "another")
-    expect("a message", head(), ["Yes, they say the same.", "Both have this one normal grid:"])
-    fill("b", "(05)12")
-    expect("no message", (head(), "Column 1 begins (05), which is no identifier" in text_of("slot-b")),
-           (["No answer", "Symbol B can’t be taken."], True))
+    no_answer, same, one = "No answer", "Yes, they say the same.", "Both have this one normal grid:"
+    for name, text, wanted, said in (
+        ("no grid", "1" * 10 + "\n" + "0" * 9, [no_answer, "Symbol B isn’t a grid."], ""),
+        ("a message", "another", [same, one], ""),
+        ("no message", "(05)12", [no_answer, "Symbol B can’t be taken."], "Column 1 begins (05), which is no"),
+        ("turned", turned(written("another"), 1, False, True), [same],
+         "inverted, light for dark, and turned a quarter to the right"),
+        ("one letter", turned(written("Another"), 1, False, True), ["No, they say different things."], ""),
+    ):
+        fill("b", text)
+        expect(name, (head()[:len(wanted)], said in text_of("slot-b")), (wanted, True))
     for slot in "ab":
         fill(slot, "Größe \\F")
     expect("as it is typed", (head()[0], "Größe \\F" in text_of("slot-a")), ("Yes, they say the same.", True))
     take("a")
     take("b")
     expect("alike", head(), ["Yes, they say the same.", "Both have this one normal grid:"])
-    fill("b", turned(written("another"), 1, False, True))
-    expect("turned", (head()[0], "inverted, light for dark, and turned a quarter to the right" in text_of("slot-b")),
-           ("Yes, they say the same.", True))
-    fill("b", turned(written("Another"), 1, False, True))
-    expect("one letter", head()[0], "No, they say different things.")
     message = "".join(f"\\x{128 + k % 128:02X}" for k in range(60))
     write(message, 1)
     take("a")
