@@ -25,16 +25,14 @@ UNPROVED = 3
 
 
 def found(names, words):
-    """Gives the cases with these names, all if there are none, whose names have one of these words or fit a pattern of
-    them."""
+    """Gives the cases with these names, all if there are none, whose names have one of these words or fit a pattern."""
     loader = unittest.TestLoader()
     loader.testNamePatterns = [word if "*" in word else f"*{word}*" for word in words] or None
     return unittest.TestSuite(cases_of(loader, name) for name in names or ["tests"])
 
 
 def cases_of(loader, name):
-    """Gives the cases of a folder of tests/, or of a module, a class or a case in one, by its name with dots or by its
-    path."""
+    """Gives the cases of a folder of tests/, or of a module, a class or a case in one, by its name or its path."""
     parts = name.removesuffix(".py").strip("/").replace("/", ".").split(".")
     parts = parts if parts[0] == "tests" else ["tests", *parts]
     if os.path.isdir(places.path(*parts)):
@@ -43,8 +41,7 @@ def cases_of(loader, name):
 
 
 def prove(tally):
-    """Runs tests/proofs, which ends with a line that counts what it proved and tried, adds that, and tells its
-    processor time. Whether all of it passed."""
+    """Runs tests/proofs, adds the counts of its last line, and tells its processor time. Whether all of it passed."""
     if not shutil.which("rt"):
         tally.left_out["the Rattle toolchain (rt) isn't on the path, so nothing is proved"].append("tests.proofs")
         return True
@@ -63,8 +60,7 @@ def prove(tally):
 
 
 def end_in_order(own):
-    """Lets SIGTERM end this process as Ctrl-C does, so that folders and processes are gone then too; its children end
-    at once."""
+    """Lets SIGTERM end this process as Ctrl-C does, with its folders and processes; its children end at once."""
     def end(number, frame):
         if os.getpid() == own:
             signal.default_int_handler(number, frame)

@@ -1,5 +1,4 @@
-"""What pytest needs to know of the tests: `pytest -n 4` hands whole classes to its workers, since a class prepares once
-for all its cases."""
+"""What pytest needs to know: `pytest -n 4` hands whole classes to its workers, since a class prepares once."""
 import pytest
 
 

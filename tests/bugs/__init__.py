@@ -3,9 +3,10 @@ tests/SUBJECT/bugs.txt:
 
     a mark is passed over | core.py texts.read | pieces = [(_charset(⟦number⇒None⟧, data[start:end])
 
-A line has a name and, in words of the subject, where the bug is and what finds it. Behind it, or below it in lines that
-begin with =, stand texts that occur exactly once, in which ⟦what is there⇒what comes in its place⟧ is changed, with ⏎
-for the end of a line. Within the brackets a text may go on in the next line."""
+A line has a name and, in words of the subject, where the bug is and what finds it, unless a line above that ends with a
+colon says that of all below it. Behind it, or below it in lines that begin with =, stand texts that occur exactly once,
+in which ⟦what is there⇒what comes in its place⟧ is changed, with ⏎ for the end of a line. Within the brackets a text
+may go on in the next line."""
 import re
 from typing import NamedTuple
 
@@ -45,8 +46,7 @@ class Bug(NamedTuple):
 
 
 def bugs_of(subject):
-    """Gives the bugs of a subject."""
-    bugs, begun = [], ""
+    bugs, begun, heading = [], "", []
     for line in places.text_of("tests", subject, "bugs.txt").splitlines():
         line = begun + line
         begun = line if line.count("⟦") > line.count("⟧") else ""
@@ -54,8 +54,11 @@ def bugs_of(subject):
             continue
         if line.startswith("= "):
             bugs[-1].changes.append(change(line[2:]))
+        elif line.endswith(":") and " | " not in line:
+            heading = [line[:-1]]
         else:
-            name, where, *texts = line.split(" | ", 2)
+            name, *rest = line.split(" | ", 1 if heading else 2)
+            where, *texts = heading + rest
             bugs.append(Bug(name, where, [change(text) for text in texts]))
     return bugs
 
@@ -63,3 +66,9 @@ def bugs_of(subject):
 def change(text):
     """Gives a right text and a wrong one."""
     return [re.sub("⟦(.*?)⇒(.*?)⟧", part, text, flags=re.S).replace("⏎", "\n") for part in (r"\1", r"\2")]
+
+
+def sources_in(bug, *folder):
+    """Gives the text of a bug's file in a folder, by its name."""
+    file = bug.where.split()[0]
+    return {file: places.text_of(*folder, file)}

@@ -15,7 +15,6 @@ from tests.support import needs
 
 
 def is_found(own, bug):
-    """Plants a bug and tells what becomes of it."""
     try:
         with tempfile.TemporaryDirectory() as folder:
             by = own.found_by(bug, folder)

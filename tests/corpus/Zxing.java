@@ -1,7 +1,7 @@
 // Writes and reads marks by ZXing, one a line of standard input. With `write`, a line is a side and the bytes of a
 // message in hexadecimal digits, and the answer the rows of the mark in that size, joined by commas, or `-`; with
-// side 0 in the smallest square that ZXing finds. With `read`, a line is such rows, and the answer the bytes in
-// hexadecimal digits, or `-`.
+// side 0 in the smallest square that ZXing finds, with -1 in its usual shape. With `read`, a line is such rows, and the
+// answer the bytes in hexadecimal digits, or `-`.
 import com.google.zxing.BarcodeFormat;
 import com.google.zxing.Dimension;
 import com.google.zxing.EncodeHintType;
@@ -16,6 +16,7 @@ import java.util.HashMap;
 import java.util.Map;
 
 public class Zxing {
+    @SuppressWarnings("deprecation") // of sides that are asked for
     private static String write(String line) throws Exception {
         String[] words = line.split(" ", 2);
         int side = Integer.parseInt(words[0]);
@@ -24,7 +25,9 @@ public class Zxing {
             text.append((char) Integer.parseInt(words[1].substring(at, at + 2), 16));
         }
         Map<EncodeHintType, Object> hints = new HashMap<>();
-        hints.put(EncodeHintType.DATA_MATRIX_SHAPE, SymbolShapeHint.FORCE_SQUARE);
+        if (side >= 0) {
+            hints.put(EncodeHintType.DATA_MATRIX_SHAPE, SymbolShapeHint.FORCE_SQUARE);
+        }
         if (side > 0) {
             hints.put(EncodeHintType.MIN_SIZE, new Dimension(side, side));
             hints.put(EncodeHintType.MAX_SIZE, new Dimension(side, side));

@@ -72,8 +72,7 @@ class Mark(NamedTuple):
 
     @property
     def damage(self):
-        """How many border modules are wrong, and of each block how many codewords are corrected, and how many
-        erased."""
+        """How many border modules are wrong, and of each block how many codewords are corrected and erased."""
         border, *counts = map(int, self.more["found"].split())
         blocks = len(counts) // 2
         return border, tuple(counts[:blocks]), tuple(counts[blocks:])
@@ -85,8 +84,7 @@ class Mark(NamedTuple):
 
     @property
     def content(self):
-        """Its items, its marks, each a place and a number, and its head: None, "programming", or a part, how many there
-        are, and the two numbers of their file."""
+        """Its items, marks, each a place and a number, and its head: None, "programming", or a part."""
         return content_of(self.said)
 
 
@@ -116,7 +114,6 @@ def bits_of(digits, count):
 
 
 def mark_of(line):
-    """Gives the mark of a line."""
     name, size, modules, doubtful, said, encoder, *more = line.split("\t")
     rows, columns = map(int, size.split("x"))
     count = rows * columns
@@ -135,7 +132,6 @@ def lines_of(name):
 
 @functools.cache
 def marks(name):
-    """Gives the marks of a file."""
     return tuple(map(mark_of, lines_of(name)))
 
 
@@ -145,7 +141,6 @@ def rows(name):
 
 
 def texts():
-    """Gives the scripts and texts of `texts.txt`."""
     return rows("texts")
 
 

@@ -76,9 +76,8 @@ def made(mark):
     encoder, *options = mark.encoder.split()
     rows = ENCODERS[encoder](given_to(mark), *options)
     bits = "".join(rows)
-    further = [f"{name}={value}" for name, value in mark.more.items()]
     return "\t".join([mark.name, f"{len(rows)}x{len(rows[0])}", f"{int(bits, 2):0{len(bits) // 4}x}", "-", mark.said,
-                      mark.encoder, *further])
+                      mark.encoder, *[f"{name}={value}" for name, value in mark.more.items()]])
 
 
 if __name__ == "__main__":

@@ -1,5 +1,4 @@
-"""Reads docs/PROMISES.md and what tools/definitions and tools/clauses print: what they say of functions, clauses and
-definitions."""
+"""What docs/PROMISES.md, tools/definitions and tools/clauses say of functions, clauses and definitions."""
 import collections
 import functools
 import re
@@ -29,8 +28,7 @@ PROMISED = re.compile(r"\*(\w+)\*((?: `[^`]+`,?)*)")
 
 
 class Promise(collections.namedtuple("Promise", "page crate file function clauses")):
-    """What is said of a function: where, its crate and file, its name, and for each clause the definitions behind
-    it."""
+    """What is said of a function: where, its crate and file, its name, and the definitions behind each clause."""
 
 
 def promises_of_page():
@@ -58,8 +56,7 @@ def output_of(script):
 
 @functools.cache
 def listed():
-    """What tools/definitions prints: by what a line has before its colon, a file, a folder or a crate, the lines that
-    stand below, as one."""
+    """What tools/definitions prints: by a file, a folder or a crate before a colon, the lines that stand below."""
     found, last = collections.defaultdict(list), None
     for line in output_of("definitions"):
         if not line.startswith("    "):
@@ -98,8 +95,7 @@ def lemmas_of_clauses():
 
 
 def bodies(file, function, clause):
-    """The texts of the clauses of this name in the contracts of the functions of this name in a file, or where a type
-    implements a trait."""
+    """The texts of the clauses of this name of functions of this name in a file, or of a type's trait."""
     owner, _, trait = function.partition(" as ")
     start = rf"^impl(?:<.*?>)? {trait} for {owner}\b" if trait else rf"\bfn {function.split('::')[-1]}\b"
     for found in re.finditer(start, text(file), re.M):
@@ -112,8 +108,7 @@ def bodies(file, function, clause):
 
 
 def is_part(name):
-    """Whether a name without a dot, or in one such as `Reads.border` the second part is a part of the first, a record
-    of specs/."""
+    """Whether a name has no dot, or in one such as `Reads.border` the second part is one of the record's of specs/."""
     record, _, part = name.partition(".")
     if not part:
         return True

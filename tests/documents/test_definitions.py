@@ -74,8 +74,7 @@ def checks_of_definitions():
             for name in definitions(source):
                 yield f"tools/definitions, definition {crate}, {inside}.{name}", (crate, inside, name) in defined
         for path in modules(crate, are_inner=True):
-            is_listed = (crate, path, os.path.basename(path)) in defined
-            yield f"tools/definitions, {crate}, inner file {path}", is_listed
+            yield f"tools/definitions, {crate}, inner file {path}", (crate, path, os.path.basename(path)) in defined
 
 
 def checks_of_functions():
@@ -93,8 +92,7 @@ def checks_of_functions():
 
 
 def home(crate, name):
-    """The crate that declares what others have by this name of a crate: that crate, or another, from which it passes
-    the name on; None if there is none."""
+    """The crate that declares what others have by this name: it, or one whose name it passes on; or None."""
     public = re.compile(rf"^pub (?:const )?(?:fn|struct|enum|trait|type) {name}\b", re.M)
     if any(map(public.search, sources(crate).values())):
         return crate
@@ -128,8 +126,7 @@ def checks_of_uses():
 
 
 def checks_of_lemmas():
-    """tools/clauses prints each lemma that a crate passes on to those above it, with the file that has it, and no
-    other."""
+    """tools/clauses prints each lemma that a crate passes on to those above it, with its file, and no other."""
     known = set(lemmas_of_clauses())
     for path, name in sorted(known):
         is_there = os.path.exists(places.path(path)) and name in text(places.path(path)).split()
@@ -144,8 +141,7 @@ def checks_of_lemmas():
 
 
 class Definitions(Case):
-    """What docs/PROMISES.md, tools/definitions and tools/clauses name is in the crates, and what is in the crates is
-    printed."""
+    """What docs/PROMISES.md, tools/definitions and tools/clauses name is in the crates, and the other way round."""
 
     def test_each_definition(self):
         self.there(checks_of_definitions())

@@ -32,7 +32,6 @@ def documents():
 
 
 def anchors(path):
-    """The headings of a page as links name them."""
     heads = re.findall(r"^#+ (.*)$", text(path), re.M)
     return {re.sub(r"[^\w\- ]", "", head.lower()).replace(" ", "-") for head in heads}
 
@@ -58,8 +57,7 @@ def file_names():
 def is_file(name):
     """Whether a name is that of a file or a folder, in the tree or within the sources or the specs of some crate."""
     folders = [places.path(folder) for folder in ("", "scripts", "crates", "docs", "library", "web", "packaging")]
-    within = [places.path("crates", crate, folder) for crate in crates()
-              for folder in ("", "src", "specs", "proofs", "src/c40")]
+    within = [places.path("crates", one, it) for one in crates() for it in ("", "src", "specs", "proofs", "src/c40")]
     return name in file_names() or any(os.path.exists(os.path.join(folder, name)) for folder in folders + within)
 
 
@@ -81,12 +79,10 @@ def written():
 
 
 def checks_of_width():
-    """Lines have at most 120 columns, those of documents but in tables and blocks of code; README has at most 110
-    lines."""
+    """Lines have at most 120 columns, but for tables and blocks of code in documents; README has at most 110 lines."""
     for path in [*documents(), *written()]:
         plain = re.sub(r"^```.*?^```$", "", text(path), flags=re.M | re.S) if path.endswith(".md") else text(path)
-        wide = [line for line in plain.splitlines()
-                if len(line) > 120 and not (path.endswith(".md") and line.startswith("|"))]
+        wide = [it for it in plain.splitlines() if len(it) > 120 and not (path.endswith(".md") and it.startswith("|"))]
         yield f"{os.path.relpath(path, places.TOP)}, lines of more than 120 columns: {wide[:1]}", not wide
     yield "README.md, at most 110 lines", len(text(places.path("README.md")).splitlines()) <= 110
 
@@ -111,8 +107,7 @@ def checks_of_names():
     """Each name with an underscore, of two parts, or of a type, in the pages about the tree, is a word of the tree."""
     patterns = ("crates/*/src/**/*.rt", "crates/*/specs/**/*.antt", "crates/*/proofs/**/*.antt", "library/*.*",
                 "library/python/**/*.py", "web/*.mjs")
-    found = [path for pattern in patterns
-             for path in glob.glob(places.path(pattern), recursive=True) if os.path.isfile(path)]
+    found = [it for pattern in patterns for it in glob.glob(places.path(pattern), recursive=True) if os.path.isfile(it)]
     words = set().union(*(re.findall(r"\w+", text(path)) for path in found))
     pages = [places.path("docs", f"{name}.md") for name in ("DECISIONS", "MAP", "LIBRARY", "NOTATION", "GATE")]
     for page in [*pages, *glob.glob(places.path("crates", "*", "README.md"))]:
@@ -132,8 +127,7 @@ def checks_of_passages():
     for before, block in re.findall(r"(\]\([^)]*\)[^`]*?(?:`[^`]+`[^`]*?)*?)```text\n(.*?)```", page, re.S):
         file = places.path("docs", re.findall(r"\]\(([^)]*)\)", before)[-1])
         for line in block.splitlines():
-            yield f"docs/NOTATION.md, {line.strip()}", line.strip() in [there.strip()
-                                                                        for there in text(file).splitlines()]
+            yield f"docs/NOTATION.md, {line.strip()}", line.strip() in [it.strip() for it in text(file).splitlines()]
 
 
 def checks_of_crates():
@@ -163,7 +157,6 @@ def checks_of_counts():
 
 
 def subjects():
-    """The folders of tests/ that have cases."""
     found = glob.glob(places.path("tests", "*", "test_*.py"))
     return sorted({os.path.basename(os.path.dirname(path)) for path in found})
 

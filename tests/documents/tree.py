@@ -9,13 +9,7 @@ import re
 from tests.support import places
 
 QUOTED = re.compile(r"`([^`]+)`")
-
-
-@functools.cache
-def text(path):
-    """Gives what stands in a file."""
-    with open(path, encoding="utf-8") as file:
-        return file.read()
+text = functools.cache(places.text_of)
 
 
 def crates():
@@ -25,8 +19,7 @@ def crates():
 
 @functools.cache
 def modules(crate, are_inner=False):
-    """The modules in the folders of a crate's specs/, by their paths there: those of inner folders, or the others. The
-    list of a folder's modules defines nothing."""
+    """The modules in the folders of a crate's specs/, by their paths: inner ones or the others, but no list of them."""
     top, found = places.path("crates", crate, "specs"), {}
     for folder in ("", "*"):
         for path in glob.glob(os.path.join(top, folder, *["inner"] * are_inner, "*.antt")):
@@ -63,8 +56,7 @@ def sources(crate):
 
 
 def functions_in(source):
-    """The functions that are marked as public in a file, and those of its public traits, each with the type or trait
-    that has it, or None."""
+    """The functions that are public in a file, and those of its public traits, each with its type or trait, or None."""
     owner, is_trait = None, False
     for line in source.splitlines():
         if declared := re.match(r"(pub trait|impl(?:<.*?>)?) (\w+)[^{]*\{", line):
@@ -92,8 +84,7 @@ def public_modules(crate):
 
 
 def public_functions(crate):
-    """The functions that other crates can call, each with its file: what the crate's first file and its public modules
-    have or pass on, the functions of types among this."""
+    """The functions that other crates can call, those of types among them, by the first file and public modules."""
     for public, passed_on in public_modules(crate).items():
         for name, source in sources(crate).items():
             file = places.path("crates", crate, "src", name + ".rt")
@@ -107,8 +98,7 @@ def public_functions(crate):
 
 @functools.cache
 def contracts(file):
-    """The names of clauses in a file, by function, by type and function, and by type; that of an unnamed clause is
-    ''."""
+    """The names of clauses in a file, by function, by type and function, and by type; '' for an unnamed one."""
     found, owner, function = collections.defaultdict(set), None, None
     for line in text(file).splitlines():
         if declared := re.match(r"(?:pub(?:\(\w+\))? )?(?:struct|enum|trait) (\w+)", line):
@@ -124,8 +114,7 @@ def contracts(file):
 
 
 def clauses_of(file, function):
-    """The clauses of a function in a file: a type's by both names, any other by its last; None if there is no such
-    function."""
+    """The clauses of a function in a file: a type's by both names, any other by its last; or None."""
     parts = function.split("::")
     is_type = len(parts) > 1 and parts[-2][0].isupper()
     return contracts(file).get("::".join(parts[-2:]) if is_type else parts[-1])

@@ -20,8 +20,7 @@ class Bench(Case):
     @needs.toolchain
     def test_the_jobs_compile_at_the_start(self):
         """The recipe up to its first proof, in place of which the jobs are compiled unproved and run."""
-        room = self.folder()
-        here = os.path.join(room, "here")
+        here = os.path.join(self.folder(), "here")
         self.assertEqual(git("clone", "--quiet", places.TOP, here)[0], 0)
         steps = re.search(r"```sh\n(.*?)^\(cd ([^ ]*) && rt run\)", PAGE, re.S | re.M)
         status, told = commands.said(["sh", "-e", "-c", steps[1]], cwd=here)

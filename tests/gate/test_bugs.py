@@ -7,17 +7,6 @@ from tests.support.case import Case
 
 
 class Bugs(Case):
-    def each_can_be_planted(self, own):
-        self.all_sound((str(bug), bug.problem(own.sources(bug))) for bug in own.bugs())
-
-    def test_those_of_the_librarys_callers(self):
-        self.each_can_be_planted(in_library)
-
-    def test_those_of_the_page(self):
-        self.each_can_be_planted(in_page)
-
-    def test_those_of_the_python_package(self):
-        self.each_can_be_planted(in_python)
-
-    def test_those_of_the_sampler(self):
-        self.each_can_be_planted(in_sampler)
+    def test_each_can_be_planted(self):
+        for own in (in_library, in_page, in_python, in_sampler):
+            self.all_sound((str(bug), bug.problem(own.sources(bug))) for bug in own.bugs())

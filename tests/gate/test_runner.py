@@ -124,15 +124,13 @@ class Runner(Case):
 
     @staticmethod
     def support():
-        names = os.listdir(places.path("tests", "support"))
-        return [f"tests/support/{name}" for name in names if name.endswith(".py")]
+        return [f"tests/support/{name}" for name in os.listdir(places.path("tests", "support")) if name.endswith(".py")]
 
     @classmethod
     def write(cls, name, text):
         path = os.path.join(cls.top, name)
         os.makedirs(os.path.dirname(path), exist_ok=True)
-        with open(path, "w", encoding="utf-8") as file:
-            file.write(text)
+        places.wrote(text, path)
 
     def ran(self, *words, **more):
         """Status and lines of a run of the copy."""
@@ -141,7 +139,6 @@ class Runner(Case):
         return status, said.splitlines()
 
     def subject(self, name, text):
-        """Adds a subject, until the case ends."""
         self.write(f"tests/{name}/__init__.py", "")
         self.write(f"tests/{name}/test_{name}.py", text)
         self.addCleanup(shutil.rmtree, os.path.join(self.top, "tests", name))
@@ -225,8 +222,7 @@ class Runner(Case):
             self.row(str(subjects), (run.returncode, said[0], said[-1], os.path.exists(room)), wanted)
 
     def test_proofs_are_counted(self):
-        found = self.proofs("echo '7 passed, 0 failed'")
-        status, said = self.ran("--proofs", "-k", "without", **found)
+        status, said = self.ran("--proofs", "-k", "without", **self.proofs("echo '7 passed, 0 failed'"))
         self.assertEqual((status, said[-1]), (0, "8 passed, 0 failed, 0 skipped"))
 
     def test_where_a_proof_fails_the_cases_are_left_out(self):

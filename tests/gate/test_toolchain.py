@@ -1,5 +1,4 @@
-"""What is said where the toolchain isn't installed and nothing is built: one line, and not how a script came to
-fail; and the program for a first look."""
+"""What is said where the toolchain isn't installed and nothing is built, in one line; and the first look's program."""
 import os
 import shutil
 import subprocess
@@ -12,13 +11,17 @@ PATH = "/usr/bin:/bin"
 LINE = "isn't built, and the toolchain that would prove it (rt) isn't on the path"
 
 
+def copied(kind):
+    """A copy of the sources for a class, with nothing that is built."""
+    left = shutil.ignore_patterns(".git", "out", "__pycache__", "must-fail")
+    return shutil.copytree(places.TOP, os.path.join(kind.folder_of_class(), "sources"), symlinks=True, ignore=left)
+
+
 @unittest.skipIf(shutil.which("rt", path=PATH), "the toolchain stands where programs of the system do")
 class ToolchainAbsent(Case):
     @classmethod
     def setUpClass(cls):
-        cls.sources = os.path.join(cls.folder_of_class(), "sources")
-        shutil.copytree(places.TOP, cls.sources, symlinks=True,
-                        ignore=shutil.ignore_patterns(".git", "out", "__pycache__"))
+        cls.sources = copied(cls)
 
     def test_each_target_says_what_is_not_built(self):
         for target, what in (("build", "the program"), ("dist", "the program"), ("library", "the library"),
@@ -39,10 +42,7 @@ class FirstLook(Case):
 
     @classmethod
     def setUpClass(cls):
-        cls.sources = os.path.join(cls.folder_of_class(), "sources")
-        shutil.copytree(places.TOP, cls.sources, symlinks=True,
-                        ignore=shutil.ignore_patterns(".git", "out", "__pycache__", "must-fail"))
-        cls.words = os.path.join(cls.sources, "demo", "dm_tool")
+        cls.words = os.path.join(copied(cls), "demo", "dm_tool")
 
     def test_input_that_comes_late_is_answered(self):
         with subprocess.Popen(["sh", "-c", "sleep 3; echo 123456"], stdout=subprocess.PIPE) as late:

@@ -24,6 +24,7 @@ typedef struct {
 } area;
 
 static area modules_area, doubt_area, items_area, marks_area, bytes_area, out_area;
+static uint8_t rubbish; /* what all of them hold before a call, for each request another byte */
 
 static void die(const char *what) {
     printf("%s\n", what);
@@ -35,17 +36,17 @@ static area new_area(void) {
     return made;
 }
 
-/* so many bytes at the end of the area, filled with rubbish, as are those before them */
+/* so many bytes at the end of the area, which hold rubbish, as do those before them */
 static uint8_t *place_of(area whole, size_t size) {
     if (size + BEFORE > AREA)
         die("too much");
-    memset(whole.end - size - BEFORE, 0xEE, size + BEFORE);
+    memset(whole.end - size - BEFORE, rubbish, size + BEFORE);
     return whole.end - size;
 }
 
 static void check_before(area whole, size_t size) {
     for (uint8_t *at = whole.end - size - BEFORE; at < whole.end - size; at++)
-        if (*at != 0xEE)
+        if (*at != rubbish)
             die(" written before the room");
 }
 
@@ -131,8 +132,7 @@ static void print_counts(const uint8_t *counts, size_t count) {
         counts[i] == ECC200_BEYOND ? printf("%sbeyond", i ? "," : "") : printf("%s%d", i ? "," : "", counts[i]);
 }
 
-/* whether there is a fault, which is then printed: the numbers behind it have to be 0, up to the arrays, which have to
- * be left as they were */
+/* whether there is a fault, which is printed: the numbers behind it have to be 0, and the arrays as they were */
 static int is_fault(uint16_t code, const void *out, size_t arrays, size_t size) {
     ecc200_fault fault;
     memcpy(&fault, out, sizeof fault);
@@ -142,7 +142,7 @@ static int is_fault(uint16_t code, const void *out, size_t arrays, size_t size) 
         return 0;
     printf("no %d %d %d", fault.code, fault.value, fault.place);
     for (size_t i = sizeof fault; i < size; i++)
-        if (((const uint8_t *)out)[i] != (i < arrays ? 0 : 0xEE)) {
+        if (((const uint8_t *)out)[i] != (i < arrays ? 0 : rubbish)) {
             printf(", and something else written behind it");
             break;
         }
@@ -152,7 +152,7 @@ static int is_fault(uint16_t code, const void *out, size_t arrays, size_t size) 
 /* the elements of an array past those that count are left as they were */
 static void check_rest(const void *from, const void *to) {
     for (const uint8_t *at = (const uint8_t *)from; at < (const uint8_t *)to; at++)
-        if (*at != 0xEE) {
+        if (*at != rubbish) {
             printf(" written behind");
             return;
         }
@@ -364,7 +364,7 @@ static void answer_text(void) {
     printf("%zu gs1 %d bytes ", said, gs1);
     PRINT_NUMBERS(bytes, said < room ? said : room);
     for (size_t i = said; i < room; i++)
-        if (bytes[i] != 0xEE)
+        if (bytes[i] != rubbish)
             die(" written behind the text");
     check_before(bytes_area, room);
 }
@@ -378,13 +378,12 @@ static void answer_items(void) {
     printf("%zu items ", said);
     PRINT_NUMBERS(items, said < room ? said : room);
     for (size_t i = said; i < room; i++)
-        if (items[i] != 0xEEEE)
+        if (items[i] != 0x101 * rubbish)
             die(" written behind the items");
     check_before(items_area, 2 * room);
 }
 
-/* the numbers, and where each member of a struct stands and how many bytes it has: of those that listed.h names, which
- * tests/library/callers.py makes */
+/* the numbers, and where each member of a struct stands: of those that listed.h names, by callers.py */
 static void answer_constants(void) { CONSTANTS; }
 static void answer_layout(void) { LAYOUT; }
 static void answer_compatible(void) { printf("%d", ecc200_abi() == ECC200_ABI); }
@@ -413,6 +412,7 @@ int main(void) {
     while (fgets(line, sizeof line, stdin)) {
         const char *name = strtok_r(line, " \n", &rest);
         size_t i = 0;
+        rubbish = (uint8_t)(rubbish + 101);
         while (i < sizeof requests / sizeof *requests && strcmp(requests[i].name, name))
             i++;
         if (i == sizeof requests / sizeof *requests)

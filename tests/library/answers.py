@@ -35,7 +35,6 @@ def limit_of(text):
 
 
 def said(got):
-    """Items, marks and head."""
     head = got.head if isinstance(got.head, str) or got.head is None else (1, *got.head)
     return (f"items {numbers(got.items)} marks {marking((number, place) for place, number in got.marks)} "
             f"head {heading(head)}")
@@ -59,8 +58,6 @@ def chosen(shape, rows, columns):
 
 
 class Answers:
-    """What the module says to a request."""
-
     def __init__(self, ecc200):
         self.ecc200 = ecc200
 

@@ -26,18 +26,18 @@ impl Words<'_> {
         text.chunks(2).map(|pair| 16 * digit(pair[0]) + digit(pair[1])).collect()
     }
 
-    /// Items that are written as numbers with commas between them, or none as -.
+    /// What is written with commas between it, or none as -.
+    fn list<T>(&mut self, item: fn(&str) -> T) -> Vec<T> {
+        self.word().trim_matches('-').split(',').filter(|text| !text.is_empty()).map(item).collect()
+    }
+
     fn items(&mut self) -> Vec<u16> {
-        let text = self.word().trim_matches('-');
-        text.split(',').filter(|item| !item.is_empty()).map(|item| item.parse().expect("an item")).collect()
+        self.list(|text| text.parse().expect("an item"))
     }
 
     /// An extent that exists: no other can be given to a function.
     fn extent(&mut self) -> Extent {
-        match self.number() {
-            0 => Extent::Wide,
-            _ => Extent::Usual,
-        }
+        [Extent::Wide, Extent::Usual][usize::from(self.number())]
     }
 
     /// A border limit that exists, written as its kind and its number with a colon between them.
@@ -54,23 +54,16 @@ impl Words<'_> {
     /// A shape that exists, or a size.
     fn shape(&mut self) -> Shape {
         let (shape, rows, columns) = (self.number(), self.number(), self.number());
-        match shape {
-            0 => Shape::Square,
-            1 => Shape::Rectangle,
-            2 => Shape::Extended,
-            3 => Shape::Any,
-            _ => Shape::One { rows, columns },
-        }
+        let one = Shape::One { rows, columns };
+        [Shape::Square, Shape::Rectangle, Shape::Extended, Shape::Any, one][usize::from(shape)]
     }
 
-    /// Marks that are written as a number, @ and a place, with commas between them, or none as -.
+    /// Marks that are written as a number, @ and a place.
     fn marks(&mut self) -> Vec<Mark> {
-        let text = self.word().trim_matches('-');
-        let mark = |text: &str| {
+        self.list(|text| {
             let (number, place) = text.split_once('@').expect("a mark");
             Mark { number: number.parse().expect("a number"), place: place.parse().expect("a place") }
-        };
-        text.split(',').filter(|mark| !mark.is_empty()).map(mark).collect()
+        })
     }
 
     /// A head that is written as five numbers with colons between them.
@@ -86,20 +79,13 @@ impl Words<'_> {
     /// A form, a shape or a size, an extent, which is of no account without the form that has one, and a head.
     fn how(&mut self) -> How {
         let (form, shape, extent) = (self.number(), self.shape(), self.extent());
-        let form = match form {
-            0 => Form::Normal(Profile::Ascii),
-            1 => Form::Normal(Profile::Shorter),
-            _ => Form::Smallest(extent),
-        };
-        How { form, shape, head: self.head() }
+        let forms = [Form::Normal(Profile::Ascii), Form::Normal(Profile::Shorter), Form::Smallest(extent)];
+        How { form: forms[usize::from(form)], shape, head: self.head() }
     }
 
     /// A profile that exists.
     fn profile(&mut self) -> Profile {
-        match self.number() {
-            0 => Profile::Ascii,
-            _ => Profile::Shorter,
-        }
+        [Profile::Ascii, Profile::Shorter][usize::from(self.number())]
     }
 }
 
@@ -134,17 +120,12 @@ fn said(got: &Reading) -> String {
     format!("items {} marks {} head {head}", numbers(&got.items), marking(&got.marks))
 }
 
-fn reading(rows: u16, columns: u16, got: Result<Reading, Fault>) -> String {
-    match got {
-        Ok(got) => {
-            let counted: Vec<_> = got.corrected.iter().map(u8::to_string).collect();
-            let counts = blocks(&counted, &got.erased, &got.left);
-            let dealing = u8::from(got.is_dealt_anew);
-            let found = format!("rows {rows} columns {columns} border {} {counts}", got.border_faults);
-            format!("{found} {} identifier {} dealing {dealing}", said(&got), got.identifier)
-        }
-        Err(why) => refused(why),
-    }
+fn reading(rows: u16, columns: u16, got: Reading) -> String {
+    let counted: Vec<_> = got.corrected.iter().map(u8::to_string).collect();
+    let counts = blocks(&counted, &got.erased, &got.left);
+    let dealing = u8::from(got.is_dealt_anew);
+    let found = format!("rows {rows} columns {columns} border {} {counts}", got.border_faults);
+    format!("{found} {} identifier {} dealing {dealing}", said(&got), got.identifier)
 }
 
 /// The size of the smallest symbol, whether the usual extent reads it, and what it says.
@@ -159,28 +140,17 @@ fn smallest(words: &mut Words) -> Result<String, Fault> {
     Ok(format!("rows {} columns {} usual {usual} {}", symbol.rows, symbol.columns, said(&got)))
 }
 
-fn symbol(got: Result<Symbol, Fault>) -> String {
-    match got {
-        Ok(Symbol { rows, columns, modules }) => {
-            let shown = modules.iter().map(u8::to_string).collect::<String>();
-            format!("rows {rows} columns {columns} modules {shown}")
-        }
-        Err(why) => refused(why),
-    }
+fn symbol(Symbol { rows, columns, modules }: Symbol) -> String {
+    let shown = modules.iter().map(u8::to_string).collect::<String>();
+    format!("rows {rows} columns {columns} modules {shown}")
 }
 
-fn inspection(rows: u16, columns: u16, got: Result<Inspection, Fault>) -> String {
-    match got {
-        Ok(Inspection { held, mended, corrected, erased, left, border_faults, designators }) => {
-            let shown = |count: &Option<u8>| count.map_or("beyond".to_string(), |it| it.to_string());
-            let counted: Vec<_> = corrected.iter().map(shown).collect();
-            let marks = marking(&designators);
-            let words = format!("held {} mended {} designators {marks}", numbers(&held), numbers(&mended));
-            let counts = blocks(&counted, &erased, &left);
-            format!("rows {rows} columns {columns} border {border_faults} {counts} {words}")
-        }
-        Err(why) => refused(why),
-    }
+fn inspection(rows: u16, columns: u16, got: Inspection) -> String {
+    let Inspection { held, mended, corrected, erased, left, border_faults, designators } = got;
+    let shown = |count: &Option<u8>| count.map_or("beyond".to_string(), |it| it.to_string());
+    let counted: Vec<_> = corrected.iter().map(shown).collect();
+    let words = format!("held {} mended {} designators {}", numbers(&held), numbers(&mended), marking(&designators));
+    format!("rows {rows} columns {columns} border {border_faults} {} {words}", blocks(&counted, &erased, &left))
 }
 
 fn place(at: &Place) -> String {
@@ -199,18 +169,19 @@ fn size(row: &Size) -> String {
     format!("{regions} {mapping_rows} {mapping_columns} {codewords}")
 }
 
+macro_rules! named {
+    ($($name:ident)*) => { [$((stringify!($name), $name)),*] };
+}
+
 fn constants() -> String {
     use ecc200::code::*;
-    let mut shown = format!("FNC1={} ", ecc200::FNC1);
-    let extents = [("WIDE", Extent::Wide), ("USUAL", Extent::Usual)];
-    shown.extend(extents.map(|(name, extent)| format!("{name}={} ", extent as u16)));
-    let profiles = [("ASCII", Profile::Ascii), ("SHORTER", Profile::Shorter)];
-    shown.extend(profiles.map(|(name, profile)| format!("{name}={} ", profile as u16)));
-    shown += &format!("OK={OK} SHAPE={SHAPE} SIZE={SIZE} BORDER={BORDER} BLOCK={BLOCK} RESERVED={RESERVED} ");
-    shown += &format!("LEFT_OUT={LEFT_OUT} UPPER_SHIFT={UPPER_SHIFT} TRIPLET={TRIPLET} VALUE={VALUE} ");
-    shown += &format!("LENGTH={LENGTH} UNFINISHED={UNFINISHED} TOO_LONG={TOO_LONG} ITEM={ITEM} PROFILE={PROFILE} ");
-    shown += &format!("EXTENT={EXTENT} CHOICE={CHOICE} DOUBT={DOUBT} DESIGNATOR={DESIGNATOR} APPEND={APPEND} ");
-    shown + &format!("MARK={MARK} HEAD={HEAD} LIMIT={LIMIT} ")
+    use ecc200::FNC1;
+    let others = [("WIDE", Extent::Wide as u16), ("USUAL", Extent::Usual as u16)].into_iter();
+    let others = others.chain([("ASCII", Profile::Ascii as u16), ("SHORTER", Profile::Shorter as u16)]);
+    let codes = named!(OK SHAPE SIZE BORDER BLOCK RESERVED LEFT_OUT UPPER_SHIFT TRIPLET VALUE LENGTH UNFINISHED TOO_LONG
+        ITEM PROFILE EXTENT CHOICE DOUBT DESIGNATOR APPEND MARK HEAD LIMIT);
+    let every = named!(FNC1).into_iter().chain(others).chain(codes);
+    every.map(|(name, value)| format!("{name}={value} ")).collect()
 }
 
 /// The bytes of items as a reading gives them, and whether FNC1 stands in front.
@@ -248,7 +219,7 @@ impl Given {
     }
 }
 
-fn answer_read(words: &mut Words) -> String {
+fn answer_read(words: &mut Words) -> Result<String, Fault> {
     let (extent, limit) = (words.extent(), words.limit());
     let given = Given::of(words);
     let got = ecc200::read_as(extent, given.grid(), limit);
@@ -256,71 +227,62 @@ fn answer_read(words: &mut Words) -> String {
     if extent == Extent::Wide {
         assert_eq!(ecc200::read(given.grid(), limit), got);
     }
-    reading(given.rows, given.columns, got)
+    Ok(reading(given.rows, given.columns, got?))
 }
 
-fn answer_normal(words: &mut Words) -> String {
+fn answer_normal(words: &mut Words) -> Result<String, Fault> {
     let (extent, profile, limit) = (words.extent(), words.profile(), words.limit());
     let given = Given::of(words);
     let got = ecc200::normal_as(extent, given.grid(), limit, profile);
     if extent == Extent::Wide {
         assert_eq!(ecc200::normal(given.grid(), limit, profile), got);
     }
-    if let Ok(made) = &got {
-        assert_eq!(made.grid(), Grid::new(&made.modules, made.rows, made.columns));
-    }
-    symbol(got)
+    let made = got?;
+    assert_eq!(made.grid(), Grid::new(&made.modules, made.rows, made.columns));
+    Ok(symbol(made))
 }
 
-fn answer(line: &str) -> String {
+fn answer(line: &str) -> Result<String, Fault> {
     let mut words = Words(line.split_ascii_whitespace());
     let name = words.word().to_string();
-    match name.as_str() {
-        "read" => answer_read(&mut words),
-        "normal" => answer_normal(&mut words),
+    Ok(match name.as_str() {
+        "read" => answer_read(&mut words)?,
+        "normal" => answer_normal(&mut words)?,
         "write" => {
             let (how, marks) = (words.how(), words.marks());
             let usual = How { form: Form::Normal(Profile::Ascii), shape: Shape::Square, head: None };
             assert_eq!(How::default(), usual);
-            symbol(ecc200::write(&words.items(), &marks, how))
+            symbol(ecc200::write(&words.items(), &marks, how)?)
         }
         "write_bytes" => {
             let how = words.how();
-            symbol(ecc200::write_bytes(&words.bytes(), how))
+            symbol(ecc200::write_bytes(&words.bytes(), how)?)
         }
-        "smallest" => smallest(&mut words).unwrap_or_else(refused),
+        "smallest" => smallest(&mut words)?,
         "inspect" => {
             let given = Given::of(&mut words);
-            inspection(given.rows, given.columns, ecc200::inspect(given.grid()))
+            inspection(given.rows, given.columns, ecc200::inspect(given.grid())?)
         }
         "places" => {
             let (rows, columns) = (words.number(), words.number());
-            match ecc200::places(rows, columns) {
-                Ok(places) => {
-                    let each = places.iter().map(place).collect::<String>();
-                    format!("rows {rows} columns {columns}{each}")
-                }
-                Err(why) => refused(why),
-            }
+            let each = ecc200::places(rows, columns)?.iter().map(place).collect::<String>();
+            format!("rows {rows} columns {columns}{each}")
         }
         "sizes" => ecc200::sizes().iter().map(size).collect::<Vec<_>>().join(" | "),
         "compatible" => u8::from(ecc200::is_compatible()).to_string(),
-        "limit" => {
-            let (rows, columns) = (words.number(), words.number());
-            ecc200::usual_limit(rows, columns).to_string()
-        }
+        "limit" => ecc200::usual_limit(words.number(), words.number()).to_string(),
         "words" => self::words(words.number()),
         "text" => text(words.items()),
         "constants" => constants(),
         "version" => ecc200::version().to_string(),
         other => panic!("no such request: {other}"),
-    }
+    })
 }
 
 fn main() -> io::Result<()> {
     let mut out = io::BufWriter::new(io::stdout().lock());
     for line in io::stdin().lock().lines() {
-        writeln!(out, "{}", answer(&line?))?;
+        writeln!(out, "{}", answer(&line?).unwrap_or_else(refused))?;
     }
     out.flush()
 }

@@ -1,6 +1,5 @@
-"""Builds the library's callers from a folder that has them, over a library that is built, puts the requests of cases.py
-to them, and compares what they answer with what is wanted. Each function yields names of tests, each with None or what
-is wrong."""
+"""Builds the library's callers from a folder, over a library that is built, puts the requests of cases.py to them, and
+compares the answers. Each function yields names of tests, each with None or what is wrong."""
 import json
 import os
 import shutil
@@ -16,8 +15,7 @@ WARNINGS = ["-Wall", "-Wextra", "-Werror"]
 
 
 class Callers:
-    """The callers of a folder `library`, the folder `built` with the library, and a folder to work in, on this system
-    or another."""
+    """The callers of a folder `library`, the folder `built` with the library, and one to work in, on some system."""
 
     def __init__(self, library, built, work, interface, system=THIS):
         self.library, self.built, self.work, self.interface = library, built, work, interface
@@ -54,11 +52,9 @@ class Callers:
         return self.in_c_with("C with the sanitisers", "-O1", *SANITISED)
 
     def in_c_with(self, name, *flags):
-        """C, compiled with these flags."""
         return self.by_header(name, [self.system.cc, "-std=c11", "-pedantic", *flags, "-x", "c"])
 
     def in_cpp(self):
-        """The same in C++."""
         return self.by_header("C++", [self.system.cxx, "-std=c++17", "-O1", "-x", "c++"])
 
     def by_header(self, name, compiler):

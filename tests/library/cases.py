@@ -1,6 +1,5 @@
-"""Requests to the library, each with the answer that is wanted: what model.py knows by itself, or what stands here as
-it was worked out by hand. answers.c, answers.rs and answers.py answer such requests by the callers of the library, a
-line for each."""
+"""Requests to the library, each with the answer that is wanted: what model.py knows by itself, or what was worked out
+by hand. answers.c, answers.rs and answers.py answer them by the callers, a line for each."""
 from tests.library.contents import USUAL, WIDE, content_of, content_words, said_by, symbol_of
 from tests.library.model import (ANY, DIGITS, EXTENDED, FIELD, FNC1, ONE, PLACES, RECTANGLE, SIZES, SIZE_OF, SQUARE,
                                  UPPER_SHIFT, ascii_words, base_256_words, bits_of, codewords, modules_of, padded,
@@ -52,7 +51,6 @@ def hexadecimal(some):
 
 
 def shown(grid, named, doubt):
-    """Rows, columns, modules and doubtful modules."""
     rows, columns = named or grid.named
     return f"{rows} {columns} {hexadecimal(grid)} {hexadecimal(doubt)}"
 
@@ -110,13 +108,11 @@ def no(code, value=0, place=0):
 def counted(size, corrected, erased=None):
     """The three counts for each block."""
     erased = erased or [0] * size.blocks
-    left = [0 if wrong == "beyond" else size.checks_of_a_block - 2 * wrong - lost
-            for wrong, lost in zip(corrected, erased)]
+    left = [0 if bad == "beyond" else size.checks_of_a_block - 2 * bad - lost for bad, lost in zip(corrected, erased)]
     return f"corrected {numbers(corrected)} erased {numbers(erased)} left {numbers(left)}"
 
 
 def saying(said):
-    """What is said, as answers have it."""
     said = content_of(said)
     return f"items {numbers(said.items)} marks {marking(said.marks)} head {heading(said.head)}"
 
@@ -152,7 +148,6 @@ def grid_of(named, *data):
 
 
 def words_of(size, block, count, first=0):
-    """So many codewords of a block."""
     return range(block, size.data + size.check, size.blocks)[first:first + count]
 
 
@@ -174,7 +169,6 @@ def doubt_of(grid, words):
 
 
 def held_by(grid):
-    """The codewords that a symbol holds."""
     return words_in(grid.size, grid)
 
 
@@ -383,16 +377,18 @@ def sizes():
 
 def sure(grid, items, usual, extent):
     """Any border is taken where each block leaves a correction unused, and else the usual one; here in the last block
-    one is left, as two check codewords, and then one check codeword, or none."""
+    one is left, as two check codewords, and then one check codeword, or none, of damage that is known, or isn't."""
     size, named, block = grid.size, grid.named, grid.size.blocks - 1
-    checks = size.checks_of_a_block
-    for spent, is_sure in ((checks - 2, True), (checks - 1, False), (checks, False)):
-        bad, marks = hurt(grid, block, spent), doubt_of(grid, words_of(size, block, spent))
-        lost = [spent if b == block else 0 for b in range(size.blocks)]
-        for wrong in (usual, usual + 1, usual + 9):
+    checks, whole = size.checks_of_a_block, len(border_of(named, len(grid)))
+    for erased, changed, is_sure in ((checks - 2, 0, True), (checks - 1, 0, False), (checks, 0, False), (0, 0, True),
+                                     (0, size.limit - 1, True), (0, size.limit, False)):
+        bad = hurt(grid, block, erased + changed)
+        marks = doubt_of(grid, words_of(size, block, erased)) if erased else ()
+        lost, spent = ([count if b == block else 0 for b in range(size.blocks)] for count in (erased, changed))
+        for wrong in (usual, usual + 1, whole):
             worse = with_bad_border(bad, wrong)
             taken = is_sure or wrong <= usual
-            told = reading(named, items, None, wrong, lost) if taken else no(5, wrong)
+            told = reading(named, items, spent, wrong, lost) if taken else no(5, wrong)
             yield read(worse, SURE_LIMIT, extent, doubt=marks), told
             yield normal(worse, 0, SURE_LIMIT, extent, doubt=marks), symbol(items) if taken else no(5, wrong)
     worse = with_bad_border(hurt(grid, block, max(5, size.limit + 2)), usual + 1)
@@ -429,12 +425,13 @@ def doubt(grid, items, extent):
         yield read(bad, 0, extent, doubt=marks), reading(named, items, changed, 0, lost)
         yield normal(bad, 0, 0, extent, doubt=marks), symbol(items)
         yield inspect(bad, doubt=marks), inspection(named, held_by(bad), words, changed, 0, lost)
-    bad, marks = hurt(grid, block, checks + 1), doubt_of(grid, words_of(size, block, checks + 1))
-    held = held_by(bad)
-    mended = [held[i] if i % size.blocks == block else word for i, word in enumerate(words)]
     known = ["beyond" if b == block else 0 for b in range(size.blocks)]
-    yield inspect(bad, doubt=marks), inspection(named, held, mended, known)
-    yield read(bad, 0, extent, doubt=marks), no(6, 0, block)
+    for erased, wrong in ((checks + 1, 0), (checks - 1, 1)):
+        bad, marks = hurt(grid, block, erased + wrong), doubt_of(grid, words_of(size, block, erased))
+        held = held_by(bad)
+        mended = [held[i] if i % size.blocks == block else word for i, word in enumerate(words)]
+        yield inspect(bad, doubt=marks), inspection(named, held, mended, known)
+        yield read(bad, 0, extent, doubt=marks), no(6, 0, block)
     border = set(border_of(named, 7))
     marks = [255 * (i in border) for i in range(len(grid))]
     yield read(with_bad_border(grid, 7), 0, extent, doubt=marks), reading(named, items)
@@ -476,7 +473,6 @@ def modules():
 
 
 def words(codes):
-    """Each code in words."""
     for code in [*range(26), 255, 256, 65535]:
         yield f"words {code}", WORDS[code] if code in codes else "not a code of this library"
 

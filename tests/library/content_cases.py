@@ -17,8 +17,7 @@ MACRO_5, MACRO_6 = b"[)>\x1e05\x1d", b"[)>\x1e06\x1d"
 TRAILER = b"\x1e\x04"
 MOST_NUMBER = 999_999
 
-# Data codewords, and what they say in the wide extent: items, marks, each its number and its place, a head, and the
-# digit of the symbology identifier.
+# Data codewords, and what they say in the wide extent: items, marks, a head, and the identifier's digit.
 WORKED = [
     ((241, 27, 66, 67, 68, 129), b"ABC", [(26, 0)], None, 4), ((241, 128, 74, 66, 129), b"A", [(200, 0)], None, 4),
     ((241, 192, 15, 62, 66, 129), b"A", [(20000, 0)], None, 4),
@@ -64,8 +63,7 @@ EDGES = [0, 1, 25, 26, 125, 126, 127, 128, 380, 381, 382, 16382, 16383, 16384, 1
 
 
 def said_of(data, count, extent):
-    """What data codewords with pads behind them say: a content and the digit of the identifier, or the answer that
-    refuses them."""
+    """What data codewords with pads behind them say: a content and the identifier's digit, or their refusal."""
     try:
         return said_by(padded(data, count), extent)
     except Refusal as why:
@@ -121,14 +119,12 @@ def inspected(named, data):
 
 
 def designators():
-    """What inspections show of what is worked out above, of what is said and what isn't at the end of each size, and of
-    marks beside each encodation."""
+    """What inspections show of what is worked out above, of the end of each size, and of marks in each encodation."""
     for data, *_ in (*WORKED, *REFUSED):
         yield from inspected(smallest_named(data), data)
-    for size in SIZES:
-        for last in (*MALFORMED, *DESIGNATORS):
-            if len(last) <= size.data:
-                yield from inspected(size.named, [*(65 + k % 26 for k in range(size.data - len(last))), *last])
+    for size, last in itertools.product(SIZES, (*MALFORMED, *DESIGNATORS)):
+        if len(last) <= size.data:
+            yield from inspected(size.named, [*(65 + k % 26 for k in range(size.data - len(last))), *last])
     for one in RUNS.values():
         for data in ((241, 27, *one), (*one, 241, 128, 74), (236, *one, 241, 192, 1, 1, *one, 241, 27)):
             yield from inspected((24, 24), data)
@@ -158,18 +154,16 @@ RUNS = {"digits": (142, 164), "C40": (230, *triple(14, 15, 16), 254), "Text": (2
 
 
 def beside():
-    """Marks before, between and behind what each encodation says, in a macro, behind a head, and at the end; and
-    several at one place."""
+    """Marks before, between and behind what each encodation says, in a macro, behind a head, at the end; several."""
     marked = [(241, 27), (241, 128, 74), (241, 27, 241, 10)]
     for (_, one), (_, other) in itertools.product(RUNS.items(), repeat=2):
         for mark in marked[:2]:
             for data in ((*mark, *one, *other), (*one, *mark, *other), (*one, *other, *mark)):
                 yield read_of((24, 24), data)
     for front in ((), (236,), (230, 254, 237), (234,), (233, 28, 1, 2)):
-        for one in RUNS.values():
-            for mark in marked:
-                for data in ((*front, *mark, *one), (*front, *one, *mark), (*front, *mark, *one, *mark)):
-                    yield from readings_of((24, 24), data, [WIDE])
+        for one, mark in itertools.product(RUNS.values(), marked):
+            for data in ((*front, *mark, *one), (*front, *one, *mark), (*front, *mark, *one, *mark)):
+                yield from readings_of((24, 24), data, [WIDE])
     for bytes_first in (b"", b"A", b"ABC"):
         segment = base_256_words(bytes_first) if bytes_first else []
         yield from readings_of((24, 24), (*segment, 241, 27, 142, 241, 4, 164), [WIDE])
@@ -187,10 +181,9 @@ def edges():
             yield read(grid_of(named, *data), 0, WIDE), reading(named, content)
             for form in (0, 1):
                 yield write(content, form), symbol(content, form)
-    for first in (*range(0, 256, 5), 127, 128, 191, 192, 207, 208):
-        for second in (0, 1, 2, 254, 255):
-            yield read_of(TEN, (241, first, second))
-            yield read_of(TWELVE, (241, first, second, second))
+    for first, second in itertools.product((*range(0, 256, 5), 127, 128, 191, 192, 207, 208), (0, 1, 2, 254, 255)):
+        yield read_of(TEN, (241, first, second))
+        yield read_of(TWELVE, (241, first, second, second))
 
 
 def heads():
@@ -210,10 +203,9 @@ def heads():
     for size, head in itertools.product(SIZES, (PROGRAMMING, (2, 3, 4, 5))):
         content = Content((65,) * max(0, size.data - len(head_words(head))), (), head)
         yield write(content, 0, ONE, size.named), symbol(content, 0, ONE, size.named)
-    for head in NO_HEADS:
-        for form in (0, 1, SMALLEST):
-            yield write(Content((65,), (), head), form, extent=WIDE), no(23)
-            yield write_bytes(b"A", form, extent=WIDE, head=head), no(23)
+    for head, form in itertools.product(NO_HEADS, (0, 1, SMALLEST)):
+        yield write(Content((65,), (), head), form, extent=WIDE), no(23)
+        yield write_bytes(b"A", form, extent=WIDE, head=head), no(23)
 
 
 # Kinds with their numbers that are no head.
@@ -313,25 +305,26 @@ def dealt():
         yield read(hurt(Symbol(modules_of(size, words), named), 4, size.limit + 9), 0, WIDE), no(6, 0, 4)
 
 
-# ---- Marks of an encoder
+# ---- Marks of other encoders
 
 
-def printed():
-    """The marks of zint in sizes beyond the squares to 104: of each its name, rows and columns, what it says, and its
-    modules."""
-    for mark in corpus.marks("sizes"):
+def printed(*files):
+    """The marks of these files of the corpus: of each its name, rows and columns, what it says, and its modules."""
+    for mark in (mark for file in files for mark in corpus.marks(file)):
         items, marks, head = mark.content
         content = Content(items, tuple((number, place) for place, number in marks), head)
         yield mark.name, (mark.rows, mark.columns), content, list(mark.modules)
 
 
-def of_an_encoder():
-    """Each is read as the corpus says, in the usual extent too where that has it, and has the normal grid of that."""
-    for _, named, content, modules in printed():
+def of_other_encoders():
+    """Each is read as the corpus says, in the usual extent too where that has it, normalised, and inspected."""
+    for _, named, content, modules in printed("squares", "wide", "sizes", "contents", "shifts"):
         grid = Symbol(modules, named)
-        data = held_by(grid)[:grid.size.data]
+        words = held_by(grid)
+        data = words[:grid.size.data]
         yield read(grid, 0, WIDE), reading(named, content, identifier=said_by(data)[1])
         yield normal(grid, 0, 0, WIDE), symbol(content)
+        yield inspect(grid), inspection(named, words, words, designators=designators_of(data))
         content, identifier = said_of(data, len(data), USUAL)
         wanted = content if isinstance(content, str) else reading(named, content, identifier=identifier)
         yield read(grid, 0, USUAL), wanted
@@ -351,4 +344,4 @@ def damaged():
         yield normal(grid, 0, limit, WIDE, doubt=doubt), refused or wanted
 
 
-ALL = (worked, designators, ends, beside, edges, heads, marks, orders, dealt, of_an_encoder, damaged)
+ALL = (worked, designators, ends, beside, edges, heads, marks, orders, dealt, of_other_encoders, damaged)

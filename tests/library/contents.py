@@ -49,9 +49,7 @@ def basic(latch, value):
 
 
 def shift_3(latch):
-    """The bytes behind Shift 3."""
-    contents = range(65, 91) if latch == TEXT else range(97, 123)
-    return [96, *contents, *range(123, 128)]
+    return [96, *(range(65, 91) if latch == TEXT else range(97, 123)), *range(123, 128)]
 
 
 @functools.cache
@@ -69,8 +67,6 @@ def spellings(latch):
 
 
 class Reader:
-    """Reads data codewords from the first to the last."""
-
     def __init__(self, words, extent):
         self.words, self.extent, self.at = list(words), extent, 0
         self.items, self.marks, self.head, self.single = [], [], None, set()
@@ -229,8 +225,7 @@ def said_by(words, extent=WIDE):
 
 
 def designators_of(words):
-    """The numbers of the marks that data codewords say in the wide extent, each with how many codewords stand before
-    its ECI; none where they say nothing."""
+    """The numbers of the marks that data codewords say, each with how many codewords stand before its ECI; or none."""
     reader = Reader(words, WIDE)
     try:
         reader.content()
@@ -248,7 +243,6 @@ def head_of(words):
 
 
 def is_head(head):
-    """Whether this is a head or none."""
     if head is None or head == "programming":
         return True
     part, parts, *file = head
@@ -291,10 +285,8 @@ def content_of(said):
 
 
 def is_content(content):
-    """Whether head and marks are right for the items."""
     places = [0, *(place for _, place in content.marks), len(content.items)]
-    return is_head(content.head) and places == sorted(places) and all(0 <= number <= MOST_NUMBER
-                                                                     for number, _ in content.marks)
+    return is_head(content.head) and places == sorted(places) and all(0 <= it <= MOST_NUMBER for it, _ in content.marks)
 
 
 def content_words(content, profile=0):
@@ -315,8 +307,7 @@ def content_words(content, profile=0):
 # ---- The smallest symbol, by a search over all codewords that can say something
 
 class Sayings:
-    """Where codewords that say a content may come to, in a symbol of so many data codewords: every way is taken, and
-    none has a cost."""
+    """Where codewords that say a content may come to, in a symbol of so many: every way, at no cost."""
 
     def __init__(self, content, count, extent):
         self.tokens, self.count, self.extent = content.tokens(), count, extent
@@ -412,8 +403,7 @@ def can_say(content, count, extent):
 
 
 def inside_macro(content):
-    """What a macro has to say so that a content is said, or None. None is written before FNC1, which readers would take
-    for a sign there."""
+    """What a macro has to say so that a content is said, or None; none before FNC1, which would be a sign there."""
     items = list(content.items)
     for header in MACROS.values():
         inner = items[len(header):-len(TRAILER)]
@@ -432,8 +422,7 @@ def smallest(content, extent, choice, named=(0, 0)):
 # ---- Symbols
 
 def symbol_of(said, profile=0, shape=SQUARE, named=(0, 0)):
-    """The size and the modules of the smallest symbol of a shape, or of the one that is named, that holds the normal
-    form of a content, or of items; None if there is none."""
+    """The size and modules of the smallest symbol of a shape, or of a named one, with a content; or None."""
     words = content_words(content_of(said), profile)
     for size in SIZES:
         if size.is_of(shape, named) and len(words) <= size.data:
@@ -442,8 +431,7 @@ def symbol_of(said, profile=0, shape=SQUARE, named=(0, 0)):
 
 
 def dealt_anew(size, words):
-    """The codewords of a symbol in the other dealing of 144 x 144: its check codewords are dealt anew from the first
-    block on, and so stand elsewhere."""
+    """The codewords of a symbol in the other dealing of 144 x 144: check codewords from the first block on."""
     first = size.data % size.blocks
     checks = words[size.data:]
     moved = [0] * len(checks)

@@ -1,6 +1,5 @@
-"""Makes wrong callers from library/ecc200.h: headers in which a number is one more or one less, or in which two names
-that stand side by side are exchanged, those of numbers, of words, and of members of a struct. Each is written into the
-callers as tools/callers does."""
+"""Makes wrong callers from library/ecc200.h: headers with a number one more or one less, or with two names side by side
+exchanged, of numbers, words or members of a struct. Each is written into the callers by tools/callers."""
 import itertools
 import re
 
@@ -24,7 +23,6 @@ def with_members_exchanged(text, struct, pair):
 
 
 def wrong_headers(text, interface):
-    """Wrong headers, each with what is wrong."""
     for step in (-1, 1):
         yield f"ABI is {interface.abi + step}", re.sub(r"(?<=define ECC200_ABI )\d+", str(interface.abi + step), text)
         for name, value in interface.constants.items():
@@ -43,7 +41,6 @@ def wrong_headers(text, interface):
 
 
 def wrong_callers():
-    """A bug for each wrong header and each caller of which it changes the text."""
     tool, text = header.callers(), places.text_of("library", HEADER)
     for name, wrong in wrong_headers(text, header.interface()):
         yield Bug(name, HEADER, [(text, wrong)])

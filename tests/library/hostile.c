@@ -26,15 +26,13 @@ static ecc200_symbol *symbol, *again;
 static ecc200_inspection *inspection;
 static ecc200_place_table *table;
 static ecc200_size_table sizes;
-static unsigned power[510], logarithm[256]; /* each power twice, since a sum of two logarithms is below 510 */
 
 static int fail(const char *what) {
     printf("%s\n", what);
     return 1;
 }
 
-/* a random number below 2^31: the upper bits of Knuth's generator for MMIX, since half of the time went into the lock
- * of C's own */
+/* a random number below 2^31: the upper bits of Knuth's generator for MMIX, as C's own takes a lock */
 static int chance(void) {
     static uint64_t state = 3;
     state = state * 6364136223846793005 + 1442695040888963407;
@@ -98,16 +96,12 @@ static int is_read_back(const uint16_t *items, size_t count, const ecc200_mark *
            got.identifier <= (mark_count ? 6 : 3) && got.dealing == 0;
 }
 
-/* the modules of a written symbol, damaged or not; or noise if what is given can't be written; NULL if something is
- * wrong */
+/* the modules of a written symbol, damaged or not; or noise if it can't be written; NULL if something is wrong */
 static uint8_t *written(dimensions *size, size_t *count) {
     size_t items_count = (size_t)(chance() % 2 ? chance() % 3200 : chance() % 40), mark_count;
-    ecc200_how how = {(uint16_t)(chance() % 4),
-                      (uint16_t)(chance() % 6),
-                      size->rows,
-                      size->columns,
-                      (uint16_t)(chance() % 10 ? ECC200_WIDE : chance() % 3),
-                      any_head()};
+    ecc200_how how = {.form = (uint16_t)(chance() % 4), .rows = size->rows, .columns = size->columns};
+    how.shape = (uint16_t)(chance() % 6), how.extent = (uint16_t)(chance() % 10 ? ECC200_WIDE : chance() % 3);
+    how.head = any_head();
     uint16_t *items = (uint16_t *)(void *)(area + AREA) - items_count;
     const ecc200_mark *marks = any_marks(items_count, &mark_count);
     int often = chance() % 3 ? 257 : 128;
@@ -127,40 +121,8 @@ static uint8_t *written(dimensions *size, size_t *count) {
     return modules;
 }
 
-/* the field of 256 elements with the polynomial 301 */
-static void make_field(void) {
-    unsigned value = 1;
-    for (unsigned i = 0; i < 255; i++) {
-        power[i] = power[i + 255] = value, logarithm[value] = i;
-        value = value < 128 ? value << 1 : value << 1 ^ 301;
-    }
-}
-
-static unsigned product(unsigned a, unsigned b) { return a && b ? power[logarithm[a] + logarithm[b]] : 0; }
-
-/* the check codewords of each block, behind the data codewords */
-static void add_checks(uint8_t *words, const ecc200_size *size) {
-    unsigned count = size->check_codewords / size->blocks, generator[69] = {1}, rest[69];
-    for (unsigned root = 1; root <= count; root++)
-        for (unsigned i = root; i > 0; i--)
-            generator[i] ^= product(generator[i - 1], power[root]);
-    for (unsigned block = 0; block < size->blocks; block++) {
-        memset(rest, 0, sizeof rest);
-        for (unsigned at = block; at < size->data_codewords; at += size->blocks) {
-            unsigned factor = words[at] ^ rest[0];
-            for (unsigned i = 0; i < count; i++)
-                rest[i] = rest[i + 1] ^ product(factor, generator[i + 1]);
-        }
-        /* the block behind that of the last data codeword has the first check codeword */
-        unsigned data = size->data_codewords, blocks = size->blocks;
-        unsigned first = data + (block + blocks - data % blocks) % blocks;
-        for (unsigned i = 0; i < count; i++)
-            words[first + i * blocks] = (uint8_t)rest[i];
-    }
-}
-
 /* a symbol whose data codewords are random, but often begin or end something: an encodation, a shift, a macro, the
- * message */
+ * message; its check codewords are restored as doubtful ones */
 static uint8_t *spelled(dimensions *named, size_t *count) {
     static const uint8_t turns[] = {129, 230, 231, 232, 233, 234, 235, 236, 237,
                                     238, 239, 240, 241, 241, 254, 0,   124, 31};
@@ -172,15 +134,21 @@ static uint8_t *spelled(dimensions *named, size_t *count) {
                                     : turns[(size_t)chance() % sizeof turns];
     if (chance() % 3 == 0)
         words[0] = turns[(size_t)chance() % sizeof turns];
-    add_checks(words, size);
     named->rows = size->rows, named->columns = size->columns, *count = (size_t)size->rows * size->columns;
-    uint8_t *modules = area + AREA - *count;
+    uint8_t *modules = area + AREA - *count, *checks = doubt_area + AREA - *count;
     ecc200_places(size->rows, size->columns, table);
     for (size_t i = 0; i < *count; i++) {
         const ecc200_place at = table->places[i];
-        int is_dark = at.kind == ECC200_BORDER_DARK || at.kind == ECC200_FIXED_DARK;
-        modules[i] = at.kind == ECC200_BIT ? words[at.codeword] >> (8 - at.bit) & 1 : (uint8_t)is_dark;
+        checks[i] = at.kind == ECC200_BIT && at.codeword >= size->data_codewords;
+        modules[i] = at.kind == ECC200_BORDER_DARK || at.kind == ECC200_FIXED_DARK;
+        if (at.kind == ECC200_BIT && !checks[i])
+            modules[i] = words[at.codeword] >> (8 - at.bit) & 1;
     }
+    if (ecc200_inspect(modules, *count, checks, *count, size->rows, size->columns, inspection))
+        return NULL;
+    for (size_t i = 0; i < *count; i++)
+        if (checks[i])
+            modules[i] = inspection->mended[table->places[i].codeword] >> (8 - table->places[i].bit) & 1;
     return modules;
 }
 
@@ -243,8 +211,7 @@ static int blocks_agree(void) {
            inspection->border_faults == reading->border_faults;
 }
 
-/* whether as many border faults are taken as are sure: any number, if each block leaves a correction unused, or else as
- * many as usual */
+/* whether as many border faults are taken as are sure: any number, if each block leaves a correction, or the usual */
 static int is_sure(const uint8_t *modules, size_t count, const uint8_t *marks, size_t marked, ecc200_scan scan) {
     static ecc200_reading one, other;
     int is_spent = ecc200_inspect(modules, count, marks, marked, scan.rows, scan.columns, inspection) != ECC200_OK;
@@ -323,7 +290,7 @@ int main(int argc, char **argv) {
         return fail("no modules make a symbol");
     if (ecc200_write_bytes(NULL, 0, &how, again) || memcmp(symbol, again, sizeof *symbol))
         return fail("no bytes aren't the empty message");
-    make_field(), ecc200_sizes(&sizes);
+    ecc200_sizes(&sizes);
     for (long i = 0; i < rounds; i++)
         if (round_of())
             return 1;

@@ -30,8 +30,7 @@ BLOCKS, ITEMS, MARKS = CONSTANTS["MOST_BLOCKS"], CONSTANTS["MOST_ITEMS"], CONSTA
 
 
 def laid(*members, whole=1):
-    """A struct: how many bytes it has, a multiple of `whole`, and where its members stand, each behind the one
-    before."""
+    """A struct: how many bytes it has, a multiple of `whole`, and where its members stand, one behind another."""
     at, places = 0, {}
     for name, length in members:
         places[name] = at, length
@@ -79,14 +78,12 @@ class Interface:
         return f"#define CONSTANTS {', '.join(names)}\n#define LAYOUT {', '.join(members)}\n"
 
     def shown_constants(self):
-        """As answers.c prints them."""
         every = {"ABI": self.abi, **CONSTANTS, **EXTENTS, **PROFILES, **FORMS, **SHAPES, **CODES, **HEAD_KINDS,
                  **LIMITS, **KINDS}
         return "".join(f"{name}={value} " for name, value in every.items())
 
     @staticmethod
     def shown_layout():
-        """As answers.c prints it."""
         return "".join(f"{name}={size} "
                        + "".join(f"{name}.{member}={at}+{length} " for member, (at, length) in members.items())
                        for name, (size, members) in LAYOUT.items())
@@ -140,13 +137,11 @@ class Interface:
 
 
 def is_limit(limit):
-    """Whether there is a limit of this kind."""
     return int(limit.partition(":")[0]) in LIMITS.values()
 
 
 def is_written(form, shape, rows, columns, extent, head):
-    """Whether types that have no other values can say this extent and this head: an extent is said with SMALLEST alone,
-    and but for a part a head has no numbers."""
+    """Whether types without other values can say these: an extent with SMALLEST alone, a head's numbers with a part."""
     kind, *others = map(int, head.split(":"))
     extents = EXTENTS.values() if int(form) == SMALLEST else [WIDE]
     return int(extent) in extents and (kind == HEAD_KINDS["PART"] or kind in HEAD_KINDS.values() and not any(others))

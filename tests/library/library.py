@@ -1,5 +1,4 @@
-"""What the tests of the library share: its interface, the module in Python, C files that are compiled over it, the
-worked symbol."""
+"""What the tests of the library share: its interface, the Python module, C files over it, the worked symbol."""
 import functools
 import importlib.util
 import os
@@ -41,8 +40,7 @@ def compiled(source, folder, *flags, system=THIS):
 
 @functools.cache
 def lacking_rust(system=THIS):
-    """Says why there is no Rust compiler for library/ecc200.rs, whose head names the least version; nothing if there is
-    one."""
+    """Says why there is no Rust compiler of the version that library/ecc200.rs names; nothing if there is one."""
     compiler, reason = system.rustc()
     if reason:
         return reason

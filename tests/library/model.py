@@ -1,6 +1,5 @@
 """What the tests know of Data Matrix (ISO/IEC 16022) by themselves: the sizes, the placement, the error correcting code
-and some encodations, written from the standard and not from the library, so that what the library answers can be
-compared with it."""
+and some encodations, written from the standard and not from the library, which is compared with it."""
 import functools
 import operator
 from collections import namedtuple
@@ -111,8 +110,7 @@ class Field:
 
     @functools.cache
     def multiples(self, count):
-        """The generator polynomial for so many check codewords, times each element: its coefficients but the highest,
-        together as a number to base 256."""
+        """The generator polynomial for so many check codewords, times each element, as a number to base 256."""
         generator = [1]
         for root in self.power[1:count + 1]:
             shifted, scaled = generator + [0], [0] + [self.times(root, x) for x in generator]
@@ -132,8 +130,7 @@ FIELD = Field()
 
 
 class Placement:
-    """The standard's placement of codewords in a mapping matrix: cells[row][column] is a codeword, from 0, with its
-    bit, from 1, or None."""
+    """The standard's placement in a mapping matrix: cells[row][column] is a codeword, from 0, and a bit, from 1."""
     UTAH = [(-2, -2), (-2, -1), (-1, -2), (-1, -1), (-1, 0), (0, -2), (0, -1), (0, 0)]
     # The four special shapes, by rows and columns that count from the end if they are negative.
     CORNERS = [
@@ -149,8 +146,7 @@ class Placement:
         self.sweep()
 
     def put(self, shape, row, column):
-        """Lays the next codeword in a shape; what falls out at the top, on the left or below comes back on the other
-        side, moved along."""
+        """Lays the next codeword in a shape; what falls out comes back on the other side, moved along."""
         for bit, (down, right) in enumerate(shape, 1):
             r, c = row + down, column + right
             if r < 0:
@@ -187,8 +183,7 @@ class Placement:
 
 
 def border(size, row, column):
-    """What a module of a border is, or None inside a region: dark on the left and below, alternating above and on the
-    right."""
+    """What a module of a border is, or None inside a region: dark on the left and below, else alternating."""
     r, c = row % (size.region_rows + 2), column % (size.region_columns + 2)
     last_row, last_column = size.region_rows + 1, size.region_columns + 1
     if 0 < r < last_row and 0 < c < last_column:
@@ -219,8 +214,7 @@ PLACES = {size.named: places_of(size) for size in SIZES}
 
 
 def codewords(size, data):
-    """These data codewords with the check codewords of each block, in the order of the symbol, in which all codewords
-    are dealt into the blocks one after another."""
+    """These data codewords with the check codewords of each block, in the order of the symbol, dealt one by one."""
     words = list(data) + [0] * size.check
     for b in range(size.blocks):
         first = size.data + (b - size.data) % size.blocks
@@ -260,8 +254,7 @@ def words_in(size, modules):
 
 
 def padded(data, count):
-    """Data codewords with pads behind them, of which all but the first are randomised by their place, which counts from
-    1."""
+    """Data codewords with pads behind them, of which all but the first are randomised by their place, from 1 on."""
     rest = [(PAD + 149 * place % 253 + 1 - 1) % 254 + 1 for place in range(len(data) + 2, count + 1)]
     return (list(data) + [PAD] + rest)[:count]
 

@@ -24,12 +24,10 @@ SOURCES = os.path.join("crates", CALLS)
 
 
 def bugs():
-    """The bugs that are made from the header, and those of bugs.txt."""
     return [*exchanged.wrong_callers(), *bugs_of("library")]
 
 
 def sources(bug):
-    """The text of a bug's file, by its name."""
     return {bug.where: text_of(bug.where if bug.where.startswith(SOURCES) else os.path.join("library", bug.where))}
 
 
@@ -46,8 +44,7 @@ def add_sources(top):
 
 
 def over_crate(top, callers):
-    """A spoilt crate is proved, and the exports are built over it: the tests in C have to fail over them, and so has
-    the comparison of its structs."""
+    """A spoilt crate is proved, and the exports built over it: C's tests and the comparison of structs have to fail."""
     add_sources(top)
     differing = said([sys.executable, os.path.join(TOP, "tools", "callers"), "--check", "--top", top])[1]
     callers.built, callers.archive = os.path.join(top, "built"), os.path.join(top, "built", "libecc200.a")
@@ -70,8 +67,7 @@ def over_crate(top, callers):
 
 
 def found_by(bug, folder):
-    """What fails first over a copy of the callers with a bug: of a caller a test of its languages, and of the crate
-    both that have to."""
+    """What fails first over a caller with a bug, by tests of its languages, or over the crate, by both of them."""
     is_of_crate = bug.where.startswith(SOURCES)
     copy, own = (os.path.join(folder, name) for name in ("library", "work"))
     os.mkdir(own)

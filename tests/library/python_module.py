@@ -3,6 +3,7 @@ size, grids of many kinds, pictures, and which library is loaded. The argument i
 ECC200_LIBRARY is the library, OTHER_LIBRARY one with another interface, VERSION the version of the library, REQUESTS a
 file of JSON with the requests and the answers that are wanted. It is a process of its own, since the module loads its
 library as it is imported, and prints a line of JSON for each test: its name, and what is wrong or null."""
+import array
 import ctypes
 import importlib.util
 import json
@@ -13,8 +14,8 @@ import sys
 import tempfile
 
 from tests.library.answers import Answers
-from tests.library.cases import (FNC1, LARGEST, MOST_DATA, NO_SIZES, REFUSED, TEN, TWELVE, WIDENED, WORDS, Symbol,
-                                 grid_of, hurt, with_bad_border)
+from tests.library.cases import (FNC1, LARGEST, MOST_DATA, NO_SIZES, REFUSED, TEN, TWELVE, WIDENED, Symbol, grid_of,
+                                 hurt, with_bad_border)
 from tests.library.interface import TEXTS, Interface
 from tests.library.contents import symbol_of
 from tests.library.model import ONE, PLACES, SIZES
@@ -35,7 +36,6 @@ INTERFACE = Interface(os.environ["VERSION"])
 
 
 def rows(grid):
-    """The rows of a symbol."""
     columns = grid.named[1]
     return [bytes(grid[at:at + columns]) for at in range(0, len(grid), columns)]
 
@@ -62,7 +62,6 @@ LIGHT = [bytes(10)] * 10
 
 
 def requests():
-    """What all callers are asked."""
     answers = Answers(ecc200)
     with open(os.environ["REQUESTS"], encoding="ascii") as file:
         asked = json.load(file)
@@ -73,7 +72,6 @@ def requests():
 
 
 def names():
-    """What is public, and the numbers."""
     public = {"ABI", "Code", "Extent", "FNC1", "Form", "Found", "Head", "Inspection", "Kind", "MOST_ITEMS", "Mark",
               "Place", "Profile", "Reading", "Refused", "SamplerMissing", "Shape", "Size", "decode", "find", "inspect",
               "normal", "places", "read", "sizes", "usual_limit", "write"}
@@ -99,7 +97,6 @@ def names():
 
 
 def layout():
-    """Where the members of the structs stand."""
     structs = {"fault": "_Fault", "head": "_Head", "mark": "_Mark", "scan": "_Scan", "reading": "_ReadingOut",
                "how": "_How", "symbol": "_SymbolOut", "inspection": "_InspectionOut", "place": "_PlaceOut",
                "place_table": "_PlacesOut", "size": "_SizeOut", "size_table": "_SizesOut"}
@@ -112,14 +109,11 @@ def layout():
 
 
 def exceptions():
-    """A refusal tells its code, its numbers and its words."""
-    for code, words in WORDS.items():
-        if code and code in INTERFACE.codes.values():
-            why = ecc200.Refused(code, 7, 9)
-            shown = f"{words} ({why.code.name}, value 7, place 9)"
-            got = isinstance(why, ValueError), int(why.code), why.value, why.place, str(why)
-            yield f"code {code}", got, (True, code, 7, 9, shown)
-            yield f"code {code} by itself", (ecc200.Refused(code).value, ecc200.Refused(code).place), (0, 0)
+    """A refusal is a ValueError, and by itself has no numbers; the requests ask for its words."""
+    for code in filter(None, INTERFACE.codes.values()):
+        why = ecc200.Refused(code)
+        got = isinstance(why, ValueError), int(why.code), why.value, why.place
+        yield f"code {code} by itself", got, (True, code, 0, 0)
     for code in (0, 1, 2, 25, -1):
         yield f"no code {code}", said_by(lambda: ecc200.Refused(code)), "ValueError"
 
@@ -139,7 +133,8 @@ def texts():
         yield f"GS1 {data} by its place", ecc200.write(data, True), wanted
         yield f"GS1 {data} with FNC1", ecc200.write([FNC1 if byte == 29 else byte for byte in data], gs1=True), wanted
         yield f"not GS1 {data}", ecc200.read(ecc200.write(data)).items, tuple(data)
-    for given in (bytearray(b"AB"), [65, 66], (65, 66), iter([65, 66]), memoryview(b"AB"), range(65, 67)):
+    for given in (bytearray(b"AB"), [65, 66], (65, 66), iter([65, 66]), memoryview(b"AB"), range(65, 67),
+                  array.array("B", b"AB")):
         yield f"a message as {type(given).__name__}", ecc200.write(given), ecc200.write(b"AB")
 
 
@@ -207,8 +202,7 @@ def letters():
         yield f"the smallest for {extent.name}", (len(made), ecc200.read(made, extent=extent).data), (side, signs)
     yield "for whom it isn't said", len(ecc200.write(signs, form=ecc200.Form.SMALLEST)), 18
     yield "a form before a profile", ecc200.write(b"\x80" * 3, profile=1, form=0), ecc200.write(b"\x80" * 3)
-    yield "the form of a profile", ecc200.write(b"\x80" * 3, form=ecc200.Form.SHORTER), ecc200.write(b"\x80" * 3,
-                                                                                                    profile=1)
+    yield "a profile's form", ecc200.write(b"\x80" * 3, form=ecc200.Form.SHORTER), ecc200.write(b"\x80" * 3, profile=1)
 
 
 def defaults():
@@ -237,7 +231,6 @@ def defaults():
 
 
 def limits():
-    """Border limits of any size."""
     bad = rows(with_bad_border(FLAT, 3))
     for call in (ecc200.read, ecc200.normal):
         for limit in (0, 2, 3, 4, 65535, 65536, 65537, 10 ** 20):
@@ -250,8 +243,7 @@ def limits():
             yield f"{call.__name__} with the limit {limit}", said_by(lambda: call(WORKED, limit)), "ValueError"
     yield "border faults", ecc200.read(bad, 3).border_faults, 3
     yield "border faults that are inspected", ecc200.inspect(bad).border_faults, 3
-    yield "usual limits of squares", [ecc200.usual_limit(side) for side in range(200)], [side // 4 for side
-                                                                                         in range(200)]
+    yield "limits of squares", [ecc200.usual_limit(side) for side in range(200)], [side // 4 for side in range(200)]
 
 
 # The same grid in other forms, and what isn't a grid with how it's refused.
@@ -270,20 +262,29 @@ NO_GRIDS = [
     ("a shorter row", [b"\1\0", b"\1"], refused("SHAPE")),
     ("a longer row", [*WORKED[:-1], WORKED[-1] + b"\1"], refused("SHAPE")),
     ("rows of other lengths and as many modules", [b"\1" * 9, b"\1" * 11, *WORKED[2:]], refused("SHAPE")),
+    ("two wrong rows", [WORKED[0] + b"\1", WORKED[1][:-1], *WORKED[2:]], refused("SHAPE")),
+    *((name, given, refused("SHAPE")) for name, given in (
+        ("rows of text, some too short", ["1" * 10, "1" * 9] * 5), ("a line too short", "11\n1\n"),
+        ("99 bytes", bytes(99)), ("three bytes", bytes(3)), ("flat bytes of a rectangle", bytes(12 * 26)))),
     ("a row too many", [*WORKED, WORKED[-1]], refused("SIZE", 11, 10)),
     ("a row too few", WORKED[1:], refused("SIZE", 9, 10)),
     ("no rows", [], refused("SIZE", 0, 0)),
+    *((f"nothing as {type(given).__name__}", given, refused("SIZE", 0, 0)) for given in (b"", "")),
     ("an empty row", [b""], refused("SIZE", 1, 0)),
+    *((f"a row of {count}", [bytes(count)], refused("SIZE", 1, count)) for count in (65_535, 65_536)),
+    ("one column", [b"\1"] * 65_536, refused("SIZE", 65_536, 1)),
+    ("a short text", ["1" * 10] * 9, refused("SIZE", 9, 10)),
+    ("an oblong view", memoryview(bytes(200)).cast("B", (10, 20)), refused("SIZE", 10, 20)),
+    ("flat bytes of side 11", bytes(121), refused("SIZE", 11, 11)),
+    ("rows of another size", [bytes(18)] * 10, refused("SIZE", 10, 18)),
     ("one module", [b"\1"], refused("SIZE", 1, 1)),
     ("side 11", [bytes(11)] * 11, refused("SIZE", 11, 11)),
     ("a rectangle that lies down", [bytes(8)] * 18, refused("SIZE", 18, 8)),
     ("the next side", [bytes(LARGEST.columns + 1)] * (LARGEST.rows + 1), refused("SIZE", LARGEST.rows + 1,
                                                                                 LARGEST.columns + 1)),
-    ("too many rows", [b""] * 65536, refused("SIZE", 65536, 0)),
-    ("None", None, "TypeError"),
-    ("a number", 7, "TypeError"),
-    ("a row that is a number", [1], "TypeError"),
-    ("modules that are nothing", [None], "TypeError"),
+    *((f"{count} rows", [b""] * count, refused("SIZE", count, 0)) for count in (65_536, 70_000)),
+    *((name, given, "TypeError") for name, given in (
+        ("None", None), ("a number", 7), ("a row that is a number", [1]), ("modules that are nothing", [None]))),
 ]
 
 
@@ -306,8 +307,8 @@ def doubts():
     yield "all are doubtful", said_by(lambda: ecc200.read(bad, doubtful=marks)), refused("BLOCK", 0, 0)
     for call in (ecc200.read, ecc200.normal, ecc200.inspect):
         for name, given in (("rows of another number", [bytes(16)] * 16), ("columns and rows", [bytes(8)] * 32),
-                            ("a row less", [bytes(32)] * 7), ("no rows", []), ("no bytes", b""),
-                            ("too few bytes", bytes(255)), ("too many bytes", bytes(257))):
+                            ("a row less", [bytes(32)] * 7), ("a column less", [bytes(31)] * 8), ("no rows", []),
+                            ("no bytes", b""), ("too few bytes", bytes(255)), ("too many bytes", bytes(257))):
             got = said_by(lambda: call(rows(oblong), doubtful=given))
             yield f"{call.__name__} with {name} doubtful", got, refused("DOUBT")
         for name, given in (("rows", [bytes(32)] * 8), ("bytes", bytes(256)), ("text", ["0" * 32] * 8), ("none", None)):
@@ -325,28 +326,32 @@ NUMBERS = {
         *((given, {}, "TypeError") for given in (["A"], [65.5], None, [None], 65)),
         *((b"A", {"profile": number}, ("PROFILE", number, 0)) for number in (2, 65535)),
         *((b"A", {"profile": number}, ("PROFILE", 0)) for number in (-1, 65536, 65537, -65535)),
-        *((b"A", {"shape": number}, ("CHOICE", number, 0)) for number in (4, -1, 65536)),
+        *((b"A", {"shape": number}, ("CHOICE", number, 0)) for number in (4, -1, 65536, 1 << 40)),
         *((b"A", how, "TypeError") for how in ({"profile": "ascii"}, {"shape": "any"}, {"size": "8x32"},
-                                               {"size": (8,)}, {"size": (8, 32), "shape": 0})),
+                                               {"size": (8,)}, {"size": (8, 18, 1)}, {"size": (8, 32), "shape": 0})),
         (b"A" * (MOST_DATA + 1), {}, ("TOO_LONG", 0, 0)),
         (b"\xff" * (MOST_DATA - 2), {"profile": 1}, ("TOO_LONG", 0, 0)),
-        *((b"A", {"size": named}, ("SIZE", *named)) for named in NO_SIZES)],
+        *((b"A", {"size": named}, ("SIZE", *named))
+          for named in (*NO_SIZES, (-8, 18), (8, -18), (8, 34), (65_544, 18), (1 << 40, 1 << 40)))],
     ecc200.normal: [(WORKED, {"profile": 2}, ("PROFILE", 2, 0)),
                     *((WORKED, {"profile": number}, ("PROFILE", 0)) for number in (-1, -65536, 65536))],
     ecc200.places: [*((number, {}, ("SIZE", number, number)) for number in (-65526, -1, 0, 65546, 10 ** 20)),
-                    (8, {"columns": 65554}, ("SIZE", 8, 65554)), ("ten", {}, "TypeError")],
+                    *((high, {"columns": wide}, ("SIZE", high, wide)) for high, wide in ((8, 65554), (-8, 18))),
+                    ("ten", {}, "TypeError")],
     ecc200.usual_limit: [("ten", {}, "TypeError")], ecc200.read: [(WORKED, {"border_limit": "2"}, "TypeError")],
 }
 
 
 def numbers():
-    """Numbers of any size."""
     for call, given, how, wanted in ((call, *row) for call, some in NUMBERS.items() for row in some):
         got = said_by(lambda: call(given, **how))
         if isinstance(wanted, tuple) and isinstance(got, tuple):
             got = got[1::2] if len(wanted) == 2 else got[1:]
         yield f"{call.__name__}, {str(given)[-40:]}, {how}", got, wanted
     yield "256 is FNC1", ecc200.write([256]), ecc200.write([FNC1])
+    yield "a list for a size", ecc200.write(b"A", size=[8, 18]), ecc200.write(b"A", size=(8, 18))
+    got = ecc200.read(ecc200.write(b"10A\x1d21B", gs1=True, size=(8, 32))).items
+    yield "GS1 data in a size", got, (FNC1, *b"10A", FNC1, *b"21B")
     yield "a text", ecc200.write("A"), ecc200.write(b"A")
     yield "the longest", len(ecc200.write(b"7" * 2 * MOST_DATA)), LARGEST.rows
     for extent in (2, -1, 65535, 65536, 65537, -65535, -65536):
@@ -368,6 +373,8 @@ def results():
         each = [at for row in places for at in row]
         types = {type(at) for at in each} | {type(at.kind) for at in each}
         yield f"their types of {size.named}", types, {ecc200.Place, ecc200.Kind}
+    first, _ = ecc200.write(b"123456"), ecc200.write(b"7" * 1000)
+    yield "an answer stays as it was", first, WORKED
     seen = ecc200.inspect(WORKED)
     words = bytes([142, 164, 186, 114, 25, 5, 88, 102])
     yield "an inspection", tuple(seen), (words, words, (0,), 0, (0,), (5,), 0, ())
@@ -390,8 +397,7 @@ class Array:
 
 
 def pictures():
-    """Which arrays are pictures, and what is said of others; and that nothing is found where the sampler isn't
-    installed, as is said."""
+    """Which arrays are pictures, and what is said of others, and where the sampler isn't installed."""
     shades = bytes(range(0, 240, 40))
     for name, given, wanted in [
         ("a view of bytes", memoryview(shades).cast("B", (2, 3)), (shades, 3, 2)),
@@ -400,14 +406,12 @@ def pictures():
         ("an array interface", Array(shades, (2, 3)), (shades, 3, 2)),
         ("an array interface of booleans", Array(b"\0\1", (1, 2), "|b1"), (b"\0\xff", 2, 1)),
         ("longs", memoryview((ctypes.c_uint * 6)(*shades)).cast("B").cast("I", (2, 3)), (shades, 3, 2)),
-        ("characters", memoryview(shades).cast("c", (2, 3)), "TypeError"),
-        ("one dimension", memoryview(shades), "TypeError"),
-        ("five colours", memoryview(bytes(30)).cast("B", (2, 3, 5)), "TypeError"),
-        ("colours of characters", memoryview(bytes(18)).cast("c", (2, 3, 3)), "TypeError"),
-        ("four dimensions", memoryview(shades).cast("B", (1, 1, 2, 3)), "TypeError"),
-        ("rows", [shades], "TypeError"),
-        ("a text", "0101", "TypeError"),
-        ("None", None, "TypeError"),
+        *((name, given, "TypeError") for name, given in (
+            ("characters", memoryview(shades).cast("c", (2, 3))), ("one dimension", memoryview(shades)),
+            ("five colours", memoryview(bytes(30)).cast("B", (2, 3, 5))),
+            ("colours of characters", memoryview(bytes(18)).cast("c", (2, 3, 3))),
+            ("four dimensions", memoryview(shades).cast("B", (1, 1, 2, 3))),
+            ("rows", [shades]), ("a text", "0101"), ("None", None))),
     ]:
         yield f"luminances of {name}", said_by(lambda: ecc200.luminance(given)), wanted
     os.environ["ECC200_SAMPLE_LIBRARY"] = "/nonexistent/libecc200_sample.so"

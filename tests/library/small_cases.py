@@ -1,14 +1,13 @@
 """Requests about the smallest symbol, each with its size, whether the usual extent reads it, and what it says: by the
-search of contents.py, which knows no costs, or, for long messages of one kind, by a count that this search confirms for
-short ones."""
+search of contents.py, which knows no costs, or, for long ones of one kind, by a count that it confirms."""
 import itertools
+import os
 
 from tests.library.cases import SMALLEST, USUAL, WIDE, heading, marking, no, numbers, saying, symbol, write
 from tests.library.contents import Content, can_say, content_of, content_words, smallest
 from tests.library.model import ANY, EXTENDED, FNC1, ONE, RECTANGLE, SIZES, SQUARE
 
-# A digit, a capital, a small letter, a byte above 127, one of X12 alone, FNC1, and such as two or three encodations
-# have.
+# A digit, a capital, a small letter, a byte above 127, one of X12 alone, FNC1, and such as several have.
 KINDS = (49, 65, 97, 200, 13, FNC1, 95, 32, 64)
 MACRO, TRAILER = b"[)>\x1e05\x1d", b"\x1e\x04"
 
@@ -22,9 +21,7 @@ def asked(said, extent, shape, named=(0, 0)):
 
 def answer(said, size, is_usual):
     """Its size, whether the usual extent reads it, and what it says."""
-    if size is None:
-        return no(14)
-    return f"rows {size.rows} columns {size.columns} usual {int(is_usual)} {saying(said)}"
+    return no(14) if size is None else f"rows {size.rows} columns {size.columns} usual {int(is_usual)} {saying(said)}"
 
 
 def searched(said, extent, shape, named=(0, 0)):
@@ -47,17 +44,15 @@ def short(step=1):
 
 
 def with_marks(step=1):
-    """Messages of up to three items with a mark at each place, or with a head, or each one of so many; and in
-    macros."""
+    """Messages of up to three items with a mark at each place, or a head, or each one of so many; and macros."""
     every = itertools.chain.from_iterable(itertools.product(KINDS, repeat=count) for count in range(4))
     for items in itertools.islice(every, 0, None, step):
         for place in range(len(items) + 1):
             for extent, shape in ((USUAL, ANY), (WIDE, ANY), (WIDE, SQUARE)):
                 yield from searched(Content(items, ((26, place),)), extent, shape)
             yield from searched(Content((*MACRO, *items, *TRAILER), ((16383, 7 + place),)), WIDE, EXTENDED)
-        for head in ("programming", (2, 5, 1, 2)):
-            for extent in (USUAL, WIDE):
-                yield from searched(Content(items, (), head), extent, RECTANGLE)
+        for head, extent in itertools.product(("programming", (2, 5, 1, 2)), (USUAL, WIDE)):
+            yield from searched(Content(items, (), head), extent, RECTANGLE)
         yield from searched(Content((*MACRO, *items, *TRAILER), (), "programming"), WIDE, ANY)
         yield from searched((*MACRO, *items, *TRAILER), WIDE, ANY)
     for place, items in itertools.product(range(0, 13, 2), (b"ABCDEFGHIJKL", b"123456789012", b"-./-./-./-./",
@@ -66,8 +61,7 @@ def with_marks(step=1):
         yield from searched(Content(tuple(items), ((3, 0), (26, place), (26, 12))), WIDE, SQUARE)
 
 
-# Of each encodation, characters for which no other is shorter, and how many codewords so many of them take at least in
-# each extent.
+# Of each encodation, characters for which no other is shorter, and how many codewords they take in each extent.
 LONG = {
     "digits": (b"0123456789", lambda n: (n + 1) // 2),
     "C40": (b"ABCDEFGHIJKLM", lambda n: min(n, 1 + 2 * (n // 3) + n % 3)),
@@ -114,8 +108,9 @@ def long():
             yield asked(items, extent, shape), answer(items, best, best and usual <= best.data)
 
 
-# In the gate each so many of the short ones; `python3 -m tests.library.small_messages` asks all.
-SAMPLED, SAMPLED_WITH_MARKS = 23, 41
+# Each so many of the short ones; all where EVERY_MESSAGE is set, which takes minutes:
+# EVERY_MESSAGE=1 python3 -m tests library.test_systems.Here.test_c
+SAMPLED, SAMPLED_WITH_MARKS = (1, 1) if os.environ.get("EVERY_MESSAGE") else (23, 41)
 
 
 def sample():

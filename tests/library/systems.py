@@ -26,6 +26,16 @@ class System:
         """Gives the status and the output of a program with its arguments."""
         return commands.said(words, **how)
 
+    def beside(self, folder, *folders):
+        """Puts the shared libraries of folders where programs in a folder find them, and gives their environment."""
+        for path in (os.path.join(at, name) for at in folders for name in os.listdir(at)):
+            if path.endswith(".dll"):
+                shutil.copy(path, folder)
+            elif path.endswith(".so"):
+                name = re.search(r"soname: \[(.*)\]", commands.said(["readelf", "-d", path])[1])[1]
+                shutil.copy(path, os.path.join(folder, name))
+        return commands.environment() if self.is_windows else commands.environment(LD_LIBRARY_PATH=folder)
+
     def rustc(self):
         """Gives the words by which a Rust compiler is called, and why there is none, if there is none."""
         return ["rustc"], needs.lacking("rustc")
@@ -59,19 +69,7 @@ class Emulated(System):
         """What the emulator is told in the environment."""
         return {"WINEPREFIX": os.path.join(self.folder, "wine"), "WINEDEBUG": "-all"} if self.is_windows else {}
 
-    def beside(self, folder, *folders):
-        """Puts the shared libraries of folders where programs in a folder find them, and gives the environment in which
-        these run."""
-        for path in (os.path.join(at, name) for at in folders for name in os.listdir(at)):
-            if path.endswith(".dll"):
-                shutil.copy(path, folder)
-            elif path.endswith(".so"):
-                name = re.search(r"soname: \[(.*)\]", commands.said(["readelf", "-d", path])[1])[1]
-                shutil.copy(path, os.path.join(folder, name))
-        return commands.environment() if self.is_windows else commands.environment(LD_LIBRARY_PATH=folder)
-
     def end(self):
-        """Ends what Wine has started."""
         if self.is_windows:
             commands.said(["wineserver", "-k"], env=commands.environment(**self.variables()))
 

@@ -1,12 +1,10 @@
-"""Asks the library by each of its callers, in C, C++, Rust and Python. What they answer is compared with the requests
-and answers of cases.py."""
+"""What the library's callers have in common, and what the model of these tests knows, which judges them."""
 import sys
 
+from tests import corpus
 from tests.library import content_cases, contents, small_cases
-from tests.library.callers import Callers, has_sanitisers
-from tests.library.cases import check_codewords_are_known
-from tests.library.library import interface, lacking_rust
-from tests.support import commands, needs, places
+from tests.library.cases import Symbol, check_codewords_are_known, held_by
+from tests.support import commands, places
 from tests.support.case import Case
 
 
@@ -19,6 +17,13 @@ class Alike(Case):
 
     def test_the_check_codewords_of_the_model_are_those_of_the_standards_example(self):
         self.assertTrue(check_codewords_are_known())
+
+    def test_the_model_finds_the_codewords_of_another_encoder(self):
+        named = {(mark.rows, mark.columns) for mark in corpus.marks("sizes")}
+        self.row("sizes beyond the squares to 104", len({it for it in named if it[0] != it[1] or it[0] > 104}), 27)
+        for mark in corpus.marks("sizes"):
+            held, data = held_by(Symbol(mark.modules, (mark.rows, mark.columns))), bytes.fromhex(mark.more["data"])
+            self.row(mark.name, bytes(held[:len(data)]), data)
 
     def test_the_model_reads_contents_as_they_were_worked_out_by_hand(self):
         for data, items, marks, head, identifier in content_cases.WORKED:
@@ -36,29 +41,3 @@ class Alike(Case):
 
     def test_the_least_counts_of_long_messages_are_those_of_a_search(self):
         self.assertEqual(list(small_cases.counts_are_right()), [])
-
-
-@needs.library
-class Answers(Case):
-    def setUp(self):
-        self.callers = Callers(places.LIBRARY, places.BUILT, self.folder(), interface())
-
-    def test_c(self):
-        self.all_sound(self.callers.in_c_with("C", "-O2"))
-
-    def test_c_with_the_sanitisers(self):
-        if not has_sanitisers(self.folder()):
-            self.skipTest("cc has no sanitisers")
-        self.all_sound(self.callers.in_c_with_sanitisers())
-
-    @needs.programs("c++")
-    def test_cpp(self):
-        self.all_sound(self.callers.in_cpp())
-
-    def test_rust(self):
-        if reason := lacking_rust():
-            self.skipTest(reason)
-        self.all_sound(self.callers.in_rust())
-
-    def test_python(self):
-        self.all_sound(self.callers.in_python())

@@ -1,5 +1,4 @@
-"""What library/retarget.py refuses: what is of x86-64 in LLVM IR and isn't known. What is said where the compiler for a
-target isn't installed."""
+"""What library/retarget.py refuses: what is of x86-64 in LLVM IR and isn't known; and compilers that are missing."""
 import os
 import sys
 

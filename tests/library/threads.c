@@ -1,6 +1,5 @@
 /* Eight threads, each with a stack of as many KiB as the first argument says, read, normalise and inspect at the same
- * time, as often as the second says: each answer must be that of one thread alone. Then prints how many bytes of stack
- * each call uses, a line for each call. */
+ * time, as often as the second says: each answer must be that of one thread. Then prints each call's bytes of stack. */
 #define _GNU_SOURCE
 #include <ecc200.h>
 #include <pthread.h>
@@ -60,12 +59,8 @@ static void *work(void *at) {
 /* a symbol of random items, with some modules turned over, and some of them known to be */
 static void make(example *e, size_t count, int turns) {
     static ecc200_symbol symbol;
-    ecc200_how how = {(uint16_t)(rand() % 2 ? ECC200_SMALLEST : ECC200_ASCII),
-                      ECC200_ANY,
-                      0,
-                      0,
-                      ECC200_WIDE,
-                      {(uint16_t)(rand() % 4 ? ECC200_NO_HEAD : ECC200_PROGRAMMING), 0, 0, {0, 0}}};
+    ecc200_how how = {.form = (uint16_t)(rand() % 2 ? ECC200_SMALLEST : ECC200_ASCII), .extent = ECC200_WIDE};
+    how.head.kind = (uint16_t)(rand() % 4 ? ECC200_NO_HEAD : ECC200_PROGRAMMING);
     const ecc200_mark marks[] = {{26, 0}, {999999, (uint32_t)count / 2}};
     for (size_t i = 0; i < count; i++)
         items[i] = (uint16_t)(rand() % 257);
@@ -121,8 +116,7 @@ static void normal_of(example *e, uint16_t profile) {
     ecc200_normal(e->modules, ECC200_MOST_MODULES, e->doubtful, ECC200_MOST_MODULES, &scan, profile, &e->said.normal);
 }
 
-/* makes the call with a number, or none, and gives its name, or NULL if there is no such call; in the first two the
- * items are digits, of which twice as many fit */
+/* makes the call with a number, or none, and gives its name, or NULL if there is none; in the first two of digits */
 static NOT_INLINE const char *make_call(int number) {
     static ecc200_place_table places;
     static ecc200_size_table sizes;

@@ -1,5 +1,4 @@
-/* What is refused for its counts or its size is refused before any module, and any number for a doubtful one, is looked
- * at: here none can be. */
+/* What is refused for its counts or its size is refused before any module is looked at: here none can be. */
 #define _GNU_SOURCE
 #include <ecc200.h>
 #include <stdio.h>

@@ -1,6 +1,5 @@
 """A folder in which Debian packages are installed as on a machine that has nothing else: what they depend on is copied
-from this machine, package by package, with what dpkg knows of it. No network is needed, and nothing outside the folder
-changes."""
+from this one, with what dpkg knows of it. No network is needed, and nothing outside the folder changes."""
 import os
 import re
 import shutil
@@ -98,8 +97,7 @@ def keep_triggers(names, root):
 
 
 def make(root, names, own=()):
-    """Makes the root with these packages and what they stand on. `own`: packages that will be installed, and aren't
-    copied."""
+    """Makes the root with these packages and what they stand on; `own` will be installed, and aren't copied."""
     os.makedirs(root, exist_ok=True)
     os.chmod(root, 0o755)
     for link in ("bin", "sbin", "lib", "lib64"):

@@ -6,6 +6,7 @@ import re
 import shutil
 import sys
 
+from tests.sampler.pictures import pgm, pixels_of
 from tests.support import commands, needs, places
 from tests.support.case import Rows
 from tests.support.commands import said as run
@@ -27,11 +28,8 @@ GRID = ("1010101010 1100101101 1100000100 1100011101 1100001000 "
 
 
 def picture():
-    """The symbol of 123456 as a picture in the simplest of file formats, with eight pixels a module and a quiet
-    zone."""
-    rows = [f"00{row}00" for row in ["0" * 10] * 2 + GRID.split() + ["0" * 10] * 2]
-    pixels = b"".join(bytes(255 * (module == "0") for module in row for _ in range(8)) * 8 for row in rows)
-    return b"P5 112 112 255\n" + pixels
+    """The symbol of 123456 as a picture in the simplest of file formats."""
+    return pgm(pixels_of([list(map(int, row)) for row in GRID.split()], 8, 2, 0, 255))
 
 
 def bare_path(folder):
@@ -51,7 +49,6 @@ def bytecode(folder):
 
 
 def broken_links(folder):
-    """Links of documents that lead to nothing."""
     broken = []
     for path in glob.glob(f"{glob.escape(folder)}/**/*.md", recursive=True):
         text = read(path).decode()
@@ -89,7 +86,6 @@ class Packed(Rows):
         return made
 
     def works(self, name, words, **more):
-        """That a command ends with status 0."""
         status, output = run(words, **more)
         self.holds(name, status == 0, f"status {status}: {output[-2000:]}")
 
@@ -97,7 +93,6 @@ class Packed(Rows):
         return all([self.has(it, what) for it in programs])
 
     def has_sampler(self, what):
-        """Whether the sampler can be built, which has needs of its own."""
         needed = b"#include <stdio.h>\n#include <png.h>\n#include <jpeglib.h>\n"
         return run(["cc", "-fsyntax-only", "-x", "c", "-"], given=needed)[0] == 0 or self.leave_out(
             f"{what} (libpng-dev or libjpeg-dev isn't installed)")
@@ -113,6 +108,17 @@ class Packed(Rows):
             lines = re.findall(r"^\.(?:Op|Fl) .*", synopsis, re.M) + re.findall(r"^\.It .*", page, re.M)
             shown = {f"-{option}" for line in lines for option in re.findall(r"(?<= )-[a-z][a-z0-9-]*", line)}
             self.row(f"the options of {name}", set(re.findall(r"(?<![\w-])--[a-z][a-z0-9-]*", told)), shown)
+
+    def is_found_by_pkg_config(self, what, folder, libraries):
+        """A program is compiled by its words over the library in a folder, and runs over it."""
+        env = {"PATH": os.environ["PATH"], "PKG_CONFIG_LIBDIR": os.path.join(libraries, "pkgconfig")}
+        if self.has("pkg-config", f"{what}, as pkg-config finds it"):
+            made = os.path.join(folder, "by_pkg_config")
+            self.works(f"{what}, compiled by its words", [
+                "sh", "-c", 'eval exec cc -std=c11 -Wall -Wextra -Werror "$1" -o "$2" $(pkg-config --cflags --libs '
+                'ecc200)', "", os.path.join(PROJECT, "main.c"), made], env=env)
+            self.row(f"run over {what}", run([made], env={"LD_LIBRARY_PATH": libraries}), (0, SAID))
+            self.row(f"version of {what}", run(["pkg-config", "--modversion", "ecc200"], env=env), (0, f"{VERSION}\n"))
 
     def is_found_by_cmake(self, what, folder, prefix):
         """The small project finds the library, and doesn't take it for another major or a later minor version."""

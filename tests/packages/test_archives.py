@@ -1,23 +1,16 @@
 """The archives: the sources are the repository's; what is prebuilt works wherever it is unpacked."""
 import glob
 import os
-import re
 import shutil
 import tarfile
 
-from tests.packages.common import (ABI, GRID, PROJECT, QUICKLY, SAID, TOP, VERSION, Packed, broken_links, bytecode,
-                                   check_sums, picture, read, run, wrote)
+from tests.packages.common import (ABI, GRID, QUICKLY, TOP, VERSION, Packed, broken_links, bytecode, check_sums,
+                                   picture, read, run, wrote)
 from tests.support import commands, needs
+from tests.support.glibc import needed_packages
 
 OUT = os.path.join(TOP, "out", "dist")
 SOURCES, PREBUILT = f"mitsubadoor-{VERSION}", f"mitsubadoor-{VERSION}-x86_64-linux-gnu"
-
-
-def needed_packages(files):
-    """The Debian packages that have the libraries which these files need, beside the C library and our own."""
-    names = {name for file in files for name in re.findall(r"\(NEEDED\).*\[(.*)\]", run(["readelf", "-d", file])[1])}
-    told = [run(["dpkg-query", "-S", f"*/x86_64-linux-gnu/{name}"]) for name in names if "ecc200" not in name]
-    return {output.split(":")[0] for status, output in told if status == 0} - {"libc6"}
 
 
 class Archives(Packed):
@@ -28,7 +21,6 @@ class Archives(Packed):
         os.chmod(cls.folder_here, 0o755)
 
     def setUp(self):
-        """Makes the archives, once, and unpacks them."""
         super().setUp()
         if not self.has_sampler("archives") or not self.has_all(needs.PAGE, "archives"):
             self.skipTest("archives")
@@ -54,8 +46,7 @@ class Archives(Packed):
             here = {it for it in listed.splitlines() if os.path.lexists(os.path.join(TOP, it))}
             self.row("the sources", there ^ here, set())
         status, output = run(["env", "-i", f"PATH={self.path}", "make", "-C", self.sources, "help"])
-        self.holds("make help, among the sources",
-                   status == 0 and "make build" in output and "Proving" not in output, output)
+        self.holds("make help", status == 0 and "make build" in output and "Proving" not in output, output)
 
     def test_what_is_prebuilt(self):
         self.row("its checksums", check_sums(self.prebuilt), [])
@@ -81,17 +72,11 @@ class Archives(Packed):
         self.shows_its_options(self.prebuilt)
 
     def test_its_library(self):
-        loaded = {"LD_LIBRARY_PATH": self.at("lib")}
-        described = {"PATH": os.environ["PATH"], "PKG_CONFIG_LIBDIR": self.at("lib", "pkgconfig")}
-        if self.has("pkg-config", "the prebuilt library, as pkg-config finds it"):
-            words = run(["pkg-config", "--cflags", "--libs", "ecc200"], env=described)[1].split()
-            made = os.path.join(self.folder_here, "over_it")
-            self.works("compiled over it", ["cc", "-std=c11", "-Wall", "-Wextra", "-Werror",
-                                            os.path.join(PROJECT, "main.c"), "-o", made, *words])
-            self.row("run over it", run([made], env=loaded), (0, SAID))
-            for name in ("ecc200", "ecc200_sample"):
-                found = run(["pkg-config", "--variable=libdir", name], env=described)[1].strip()
-                self.row(f"where {name} lies", os.path.realpath(found), os.path.realpath(self.at("lib")))
+        self.is_found_by_pkg_config("the prebuilt library", self.folder_here, self.at("lib"))
+        env = {"PATH": os.environ["PATH"], "PKG_CONFIG_LIBDIR": self.at("lib", "pkgconfig")}
+        for name in ("ecc200", "ecc200_sample") if self.has("pkg-config", "where the prebuilt libraries lie") else ():
+            found = run(["pkg-config", "--variable=libdir", name], env=env)[1].strip()
+            self.row(f"where {name} lies", os.path.realpath(found), os.path.realpath(self.at("lib")))
         self.is_found_by_cmake("the prebuilt library", self.folder_here, self.prebuilt)
 
     def test_its_modules(self):

@@ -1,5 +1,4 @@
-"""The library as it was built: a debugger's backtraces, its names, processors, compilers' warnings, versions, and
-manual pages."""
+"""The library as it was built: backtraces, names, processors, compilers' warnings, versions, and manual pages."""
 import ctypes
 import glob
 import os
@@ -48,8 +47,7 @@ class Built(Packed):
         for kind, with_it in linked.items() if self.has("qemu-x86_64", "processors of other levels") else ():
             made = os.path.join(folder, kind)
             self.works(f"a program with the {kind} library", ["cc", "-O2", f"-I{LIBRARY}", MAIN, *with_it, "-o", made])
-            self.row(f"{kind}, on a processor of the level", run(["qemu-x86_64", "-cpu", "Nehalem", made], env=env),
-                     (0, SAID))
+            self.row(f"{kind}, on one of the level", run(["qemu-x86_64", "-cpu", "Nehalem", made], env=env), (0, SAID))
             status, output = run(["qemu-x86_64", "-cpu", "core2duo", made], env=env)
             self.holds(f"{kind}, on one below it", status == 127 and "ISA level" in output, f"{status}: {output}")
 
@@ -64,7 +62,6 @@ class Built(Packed):
                 self.works(f"the header by {compiler}", [compiler, *careful, *more, os.path.join(PARTS, "careful.c")])
 
     def test_versions(self):
-        """The version is the same wherever it stands."""
         raw = ctypes.CDLL(SHARED)
         raw.ecc200_version.restype = raw.ecc200_code_words.restype = ctypes.c_char_p
         header = re.search(r'#define ECC200_VERSION "(.*)"', package.text("library", "ecc200.h"))[1]
@@ -77,7 +74,6 @@ class Built(Packed):
                     ("a version by Semantic Versioning", re.fullmatch(r"\d+\.\d+\.\d+", VERSION))])
 
     def test_manuals(self):
-        """Each export has a manual page, and the pages are well formed."""
         exports = re.findall(r"^(?:uint16_t|void|const char \*) ?(ecc200_\w+)\(", package.text("library", "ecc200.h"),
                              re.M)
         placed = {os.path.basename(part.place) for part in package.parts() if "/man/" in part.place}

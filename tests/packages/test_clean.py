@@ -1,5 +1,4 @@
-"""A Debian root without the toolchain, with nothing but what README asks for: behind `git clone` a label is read there
-by one command, and what was built is tested by another."""
+"""A Debian root without the toolchain: behind `git clone` one command reads a label, another tests what is built."""
 import contextlib
 import os
 import platform

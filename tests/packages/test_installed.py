@@ -1,11 +1,10 @@
-"""`make install`, with a blank in the prefix, where nothing could be proved or compiled; what it gives, also to another
-user; and `make uninstall`."""
+"""`make install`, with a blank in the prefix, where nothing can be proved or compiled, for others; `make uninstall`."""
 import glob
 import os
 import re
 import stat
 
-from tests.packages.common import GRID, PROJECT, SAID, TOP, VERSION, Packed, broken_links, bytecode, read, run, wrote
+from tests.packages.common import GRID, TOP, VERSION, Packed, broken_links, bytecode, read, run, wrote
 
 LIBRARIES = "lib/x86_64-linux-gnu"
 # Compiles a module to bytecode that Python takes for another's, and doesn't compare with its source.
@@ -38,19 +37,9 @@ class Installed(Packed):
     def test_what_it_gives(self):
         self.row("the program", run([*self.clean, self.program("dm_tool"), "write"], given=b"123456\n"), (0, GRID))
         self.is_found_by_cmake("the installed library", self.room(), self.prefix)
+        self.is_found_by_pkg_config("the installed library", self.room(), os.path.join(self.prefix, LIBRARIES))
         self.shows_its_options(self.prefix)
         self.row("links in its documents that lead to nothing", broken_links(self.prefix), [])
-
-    def test_the_library_as_pkg_config_finds_it(self):
-        env = {"PATH": os.environ["PATH"], "PKG_CONFIG_LIBDIR": os.path.join(self.prefix, LIBRARIES, "pkgconfig")}
-        if self.has("pkg-config", "the installed library, as pkg-config finds it"):
-            made = os.path.join(self.room(), "by_pkg_config")
-            self.works("compiled by its words", [
-                "sh", "-c", 'eval exec cc -std=c11 "$1" -o "$2" $(pkg-config --cflags --libs ecc200)', "",
-                os.path.join(PROJECT, "main.c"), made], env=env)
-            loaded = {"LD_LIBRARY_PATH": os.path.join(self.prefix, LIBRARIES)}
-            self.row("run over the installed library", run([made], env=loaded), (0, SAID))
-            self.row("its version", run(["pkg-config", "--modversion", "ecc200"], env=env), (0, f"{VERSION}\n"))
 
     def test_another_user(self):
         """Runs the programs and reads each file."""
@@ -67,8 +56,7 @@ class Installed(Packed):
         """The installed modules are compiled, for those who can't write there; what is left of others is replaced."""
         place = os.path.join(self.prefix, "share", "ecc200", "python", "ecc200")
         modules = sorted(name.removesuffix(".py") for name in os.listdir(place) if name.endswith(".py"))
-        self.row("the modules that are compiled", [os.path.basename(it).split(".")[0] for it in bytecode(place)],
-                 modules)
+        self.row("modules compiled", [os.path.basename(it).split(".")[0] for it in bytecode(place)], modules)
         stale = wrote("raise SystemExit('stale')\n", os.path.dirname(place), "stale.py")
         for level in (0, 1):
             words = ["/usr/bin/python3", *["-O"] * level, "-c", UNCHECKED, stale, os.path.join(place, "core.py")]

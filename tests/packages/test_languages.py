@@ -1,5 +1,4 @@
-"""What the tools of other languages make of a clone, without network and the toolchain: a crate for cargo, a package
-for npm, a wheel for pip. And what shells complete."""
+"""What cargo, npm and pip make of a clone, without network and the toolchain; and what shells complete."""
 import json
 import os
 import re
@@ -36,8 +35,6 @@ zpty -r shell told $'*\\ntold: *\\n*' && print -r -- ${${${told##*$'\\n'told: }%
 
 
 class Clone(Case):
-    """What is made of a clone, as it is committed."""
-
     def setUp(self):
         self.room = self.folder()
         self.clone = os.path.join(self.room, "clone")
@@ -97,8 +94,6 @@ class Wheel(Clone):
 @needs.programs("node", "npm")
 class Node(Clone):
     def setUp(self):
-        if problem := needs.made("page"):
-            self.fail(problem)
         super().setUp()
         self.user = os.path.join(self.room, "user")
         os.makedirs(self.user)

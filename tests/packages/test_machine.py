@@ -30,8 +30,7 @@ class Machine(Packed):
         self.row("the documents' commands with demo/ on the path", tried, (0, GRID))
 
     def test_a_fresh_machine(self):
-        """`.ci/run` installs the compilers too, one by one where all at once fail, and starts `make test` by
-        tests/environment, as that does each script."""
+        """`.ci/run` installs the compilers, or one by one, and starts `make test` by tests/environment."""
         folder = self.room()
         for part in (".ci/run", "tests/environment"):
             os.makedirs(os.path.join(folder, os.path.dirname(part)))
@@ -49,13 +48,11 @@ class Machine(Packed):
         kept = {"PATH": path, "HOME": "/nowhere", "CC": "cc  -m64 '$x'", "https_proxy": "", "RT_JOBS": "1"}
         words, env = ["sh", "-c", f"umask 077; exec {folder}/.ci/run"], {**CALLER, **kept}
         status, seen = run(words, env=env)
-        self.row("a machine without the toolchain", (status, "the toolchain (rt) isn't on the path" in seen),
-                 (127, True))
+        self.row("a machine without it", (status, "the toolchain (rt) isn't on the path" in seen), (127, True))
         add("rt", "exit 0")
         status, seen = run(words, env=env)
         wanted = {"0022", "LC_ALL=C.UTF-8", *(f"{name}={value}" for name, value in kept.items())}
-        self.row("what make test sees", (status, {it for it in seen.splitlines() if not it.startswith("PWD=")}),
-                 (0, wanted))
+        self.row("make test sees", (status, {it for it in seen.splitlines() if not it.startswith("PWD=")}), (0, wanted))
         wanted = {"g++", "clang", "rustc-web", "qemu-user", "wine", "debootstrap",
                   *(it.package for it in targets.TARGETS.values())}
         self.row("compilers and emulators that aren't installed", wanted - set(read(told).decode().split()), set())

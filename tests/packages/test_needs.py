@@ -63,7 +63,6 @@ class Needs(Case):
         self.row("what installs them", f"    apt install {' '.join(it.split()[1] for it in wanted)}\n" in output, True)
 
     def test_the_documents_name_them(self):
-        """README and CONTRIBUTING have the Debian package of each."""
         told = package.text("README.md") + package.text("CONTRIBUTING.md")
         packages = {it.split()[1] for wanted in WANTED.values() for it in wanted}
         self.row("packages that neither names", sorted(it for it in packages if it not in told), [])

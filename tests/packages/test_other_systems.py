@@ -1,5 +1,4 @@
-"""What is packed for other systems: Debian packages, wheels and an archive for Windows, of the libraries that are built
-for each."""
+"""What is packed for other systems: Debian packages, wheels and an archive for Windows, of libraries built for each."""
 import glob
 import os
 import shutil
@@ -31,7 +30,6 @@ class OtherSystems(Packed):
                 yield target, self.room()
 
     def make(self, target, what):
-        """Builds something for a target by the Makefile."""
         words = ["make", "-C", TOP, what, f"TARGET={target.triple}"]
         self.works(f"make {what} for {target.triple}", words, env=commands.environment(**QUICKLY))
 
@@ -57,11 +55,9 @@ class OtherSystems(Packed):
                 self.holds("its command", b"ecc200 = ecc200.command:main" in points)
                 platform = "win_amd64"
             else:
-                platform, foreign = many_linux([os.path.join(own, name) for name in names],
-                                               target.tools.split("-", maxsplit=1)[0])
+                platform, foreign = many_linux([os.path.join(own, name) for name in names], target.tools.split("-")[0])
                 self.row(f"what is needed beside glibc for {target.triple}", foreign, set())
-            self.row(f"the name for {target.triple}", os.path.basename(found[0]),
-                     f"ecc200-{VERSION}-py3-none-{platform}.whl")
+            self.row(target.triple, os.path.basename(found[0]), f"ecc200-{VERSION}-py3-none-{platform}.whl")
 
     def test_debian_packages(self):
         """Each is for its processor, is clean, and has the library that is built for it."""
@@ -78,8 +74,7 @@ class OtherSystems(Packed):
             for file in files:
                 name = os.path.basename(file)
                 architecture = "all" if name.split("_")[0] in FOR_ALL else target.debian
-                self.row(f"the architecture of {name}", run(["dpkg-deb", "--field", file, "Architecture"]),
-                         (0, f"{architecture}\n"))
+                self.row(f"{name}", run(["dpkg-deb", "--field", file, "Architecture"]), (0, f"{architecture}\n"))
                 self.works(f"unpacking {name}", ["dpkg-deb", "--extract", file, root])
             for name, part in (("ecc200", "library"), ("ecc200_sample", "sampler")):
                 placed = glob.glob(f"{glob.escape(root)}/usr/lib/*/lib{name}.so.*")
@@ -95,8 +90,7 @@ class OtherSystems(Packed):
                            ["lintian", "--allow-root", "--fail-on", "error,warning", *changes])
 
     def test_the_archive_for_windows(self):
-        """Its checksums, and its example, compiled with what it has and run beside its library, and linked with the
-        static one."""
+        """Its checksums, and its example, compiled with what it has and run over each of its libraries."""
         for target, folder in self.targets("the archive", lambda target: target.is_windows):
             self.make(target, "dist")
             name = f"mitsubadoor-{VERSION}-{target.triple}"

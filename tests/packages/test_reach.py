@@ -22,9 +22,6 @@ class Reach(Case):
         rust = {"RUSTUP_HOME": os.environ.get("RUSTUP_HOME", os.path.expanduser("~/.rustup"))}
         self.env = commands.environment(HOME=self.home, PREFIX=self.prefix, **rust)
 
-    def installed(self, **more):
-        return commands.said([INSTALL, *PACKAGES], env={**self.env, **more})
-
     def test_what_is_in_the_way_is_named_in_a_line_and_nothing_is_installed(self):
         folder, file = os.path.join(self.prefix, "lib", "libecc200.a"), os.path.join(self.home, "file")
         os.makedirs(folder)
@@ -32,11 +29,12 @@ class Reach(Case):
         for prefix, why in ((self.prefix, f"{folder} is in the way, a folder"),
                             (file, f"{file} is in the way, which is no folder"),
                             ("/proc/none", "/proc/none: No such file or directory")):
-            self.row(prefix, self.installed(PREFIX=prefix), (1, f"packaging/install: {why}\n"))
+            self.row(prefix, commands.said([INSTALL, *PACKAGES], env={**self.env, "PREFIX": prefix}),
+                     (1, f"packaging/install: {why}\n"))
         self.row("what is there", os.listdir(os.path.join(self.prefix, "lib")), ["libecc200.a"])
 
     def test_a_home_has_all_that_is_used(self):
-        status, told = self.installed()
+        status, told = commands.said(["make", "-C", places.TOP, "install-library"], env=self.env)
         self.assertEqual(status, 0, told)
         lines = re.findall(r"^    (export .*)$", told, re.M)
         self.row("what has to be set", [it.split("=")[0] for it in lines],

@@ -75,22 +75,9 @@ PROFILES = [
 
 @needs.program
 class Answers(Case):
-    def answers(self, table):
-        """Runs the program for each row of a table."""
-        self.rows((name, ran(words.split(), given), (status, output, b""))
-                  for name, words, given, status, output in table)
-
-    def test_records_are_read(self):
-        self.answers(READ)
-
-    def test_wrong_border_modules_count_against_a_limit(self):
-        self.answers(BORDERS)
-
-    def test_grids_become_normal_grids(self):
-        self.answers(NORMAL)
-
-    def test_lines_are_written(self):
-        self.answers(WRITTEN)
+    def test_each_answer(self):
+        for name, words, given, status, output in (*READ, *BORDERS, *NORMAL, *WRITTEN):
+            self.row(name, ran(words.split(), given), (status, output, b""))
 
     def test_the_table_of_sizes(self):
         self.rows([("the table", ran(["table"], b"1\n"), (0, TABLE, b""))])

@@ -1,5 +1,4 @@
-"""What the program does where a device fails, where its input stays open, where there is too much of it, and where
-memory is refused."""
+"""What the program does where a device fails, input stays open, there is too much of it, or memory is refused."""
 import os
 import select
 import shutil
@@ -9,8 +8,7 @@ from tests.program.samples import GRID_A, NO_MEMORY, READ_FAILED, TABLE, TOO_MUC
 from tests.support import commands, needs, places
 from tests.support.case import Case
 
-# What the program answers to a line or a record that is longer than any, and the options with which it is asked once
-# more.
+# What the program answers to a line or record longer than any, and the options with which it is asked again.
 REFUSALS = {"read": b"\\no 2 large\n", "check": b"\\no 2 large\n", "normal": b"\\no 2 large\n\n",
             "write": b"\\no 14 too-long\n\n"}
 OPTIONS = {"read": ["--border", "1"], "check": ["--border", "1"], "normal": ["--shorter"], "write": ["--shorter"]}
@@ -37,8 +35,7 @@ class FailingDevices(Case):
 
 @needs.program
 class OpenInput(Case):
-    """An answer comes as soon as its record or line is closed, so that a process that keeps the input open can wait for
-    it."""
+    """An answer comes as soon as its record or line is closed, for processes that keep the input open and wait."""
 
     def test_each_answer_comes_at_once(self):
         for word, given, wanted in (("read", GRID_A + b"\n", b"A\n"), ("write", b"A\n", GRID_A + b"\n")):
@@ -64,9 +61,8 @@ class OpenInput(Case):
 
 @needs.program
 class MostInput(Case):
-    """As much input as the program reads, and a byte more, in one line. Of lines to write, digits take the program
-    longest. So one is of them, one of escaped backslashes, and those that are too much, and have no answer, are of a
-    byte that no line has."""
+    """As much input as the program reads, and a byte more, in one line: to write, one of digits, which take longest,
+    and one of escaped backslashes; those that are too much, and have no answer, are of a byte that no line has."""
 
     def test_as_much_as_is_read(self):
         for words in self.all_words():
@@ -84,8 +80,7 @@ class MostInput(Case):
 
     @staticmethod
     def ran_over_line(words, size, filler):
-        """Gives what the program makes of a line of this byte so many times, by a pipe. It may end before it has taken
-        them all."""
+        """What the program makes of a line of this byte so many times, by a pipe. It may end before it has all."""
         piece = filler * (1 << 16)
         streams = {"stdin": subprocess.PIPE, "stdout": subprocess.PIPE, "stderr": subprocess.PIPE}
         with commands.started([places.PROGRAM, *words], **streams) as program:
@@ -112,20 +107,17 @@ class RefusedMemory(Case):
         subprocess.run([compiler, "-shared", "-fPIC", "-O1", "-o", made, source, "-ldl"], check=True, timeout=60)
         cls.hook = commands.environment(LD_PRELOAD=made, GROWTHS=cls.counts)
 
-    def test_reading(self):
-        self.refused_in_turn(["read", "--border", "3"], TWO, b"123456\nA\n")
-
-    def test_writing(self):
-        self.refused_in_turn(["write"], b"A\n", GRID_A + b"\n")
-
-    def test_the_table(self):
-        self.refused_in_turn(["table"], b"", TABLE)
+    def test_each_growth(self):
+        for words, given, output in ((["read", "--border", "3"], TWO, b"123456\nA\n"),
+                                     (["write"], b"A\n", GRID_A + b"\n"), (["table"], b"", TABLE)):
+            self.refused_in_turn(words, given, output)
 
     def refused_in_turn(self, words, given, output):
         """Runs the program once with ample memory, and then with each of its growths refused."""
         ample, want = (0, output, b""), (3, b"", NO_MEMORY)
-        self.row("with ample memory", ran(words, given, env=self.hook), ample)
+        self.row(f"{words[0]} with ample memory", ran(words, given, env=self.hook), ample)
         asked = int(places.text_of(self.counts))
         ends = [ran(words, given, env={**self.hook, "REFUSED_GROWTH": str(n)}) for n in range(1, asked + 1)]
-        self.row(f"with each of {asked} growths refused", [end for end in ends if end not in (ample, want)][:1], [])
-        self.row("with the first growth refused", ends[0], want)
+        others = [end for end in ends if end not in (ample, want)]
+        self.row(f"{words[0]} with each of {asked} growths refused", others[:1], [])
+        self.row(f"{words[0]} with the first growth refused", ends[0], want)

@@ -89,6 +89,7 @@ def ecc(words="", *more, given=b"", folder=None):
     return run([*WORDS, *words.split(), *more], given, env=environment(), cwd=folder)
 
 
+@needs.library
 class PackageCase(Rows):
     """The cases of a module, in the environment in which the package finds its libraries, with a folder for all."""
 
@@ -120,19 +121,16 @@ class PackageCase(Rows):
         has_errors = not got[2] if errors is None else all(part in got[2] for part in errors)
         self.holds(name, got[0] == status and has_output and has_errors, f"{got!r}")
 
-    def wanted_module(self, name, package, what):
+    def wanted_module(self, name, package, what, leave=None):
         """A module that needn't be installed, or None, and then what needs it is left out."""
         try:
             return __import__(name)
         except ImportError:
-            return self.leave_out(f"{what} ({package} isn't installed)")
+            return (leave or self.leave_out)(f"{what} ({package} isn't installed)")
 
     def needed(self, name, package, what):
         """A module that needn't be installed; the rest of the case is left out where it isn't."""
-        try:
-            return __import__(name)
-        except ImportError:
-            return self.leave_rest(f"{what} ({package} isn't installed)")
+        return self.wanted_module(name, package, what, self.leave_rest)
 
     def needs_search(self, what):
         """Pillow, where the sampler is built too; else the rest of the case, which searches pictures, is left out."""

@@ -6,7 +6,7 @@ import sys
 import unittest
 from contextlib import nullcontext as ready
 
-from tests.bugs import bugs_of
+from tests.bugs import bugs_of, sources_in
 from tests.support import places
 
 __all__ = ["AT_ONCE", "bugs", "found_by", "ready", "sources"]
@@ -21,9 +21,7 @@ def bugs():
 
 
 def sources(bug):
-    """The text of a bug's file, by its name."""
-    file = bug.where.split()[0]
-    return {file: places.text_of("library", "python", "ecc200", file)}
+    return sources_in(bug, "library", "python", "ecc200")
 
 
 def found_by(bug, folder):

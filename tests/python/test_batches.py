@@ -10,7 +10,6 @@ from unittest import mock
 
 from tests.python.common import PACKAGE, PYTHON, WORDS, PackageCase, ecc, environment, run, saved
 from tests.python.test_surface import hurt, smallest, text
-from tests.support import needs
 
 import ecc200
 
@@ -32,13 +31,8 @@ def made(folder, name):
     return path
 
 
-# ---- Ends of input and output
-
-
-@needs.library
 class Batches(PackageCase):
     def test_numbered(self):
-        """Files are numbered by message, whatever is refused."""
         here = self.made("numbered")
         lines = "(01)09521234543213(10)A\n(01)09521234543214(10)B\n(01)09521234543213(10)C\n"
         self.says("a line is refused", self.ecc("write --gs1 -o lot.svg", given=lines), 1, "",
@@ -101,8 +95,7 @@ class Batches(PackageCase):
         self.holds("explain", "other.txt, symbol 1:\nplace" in self.ecc("explain", *names)[1].replace("  ", ""))
         strange = os.path.join(os.fsencode(here), b"\xe9.txt")
         os.link(os.path.join(here, "other.txt"), strange)
-        raw = subprocess.run([*WORDS, "read", "-H", strange], env=environment(), stdout=subprocess.PIPE,
-                             timeout=60).stdout
+        raw = subprocess.run([*WORDS, "read", "-H", strange], env=environment(), capture_output=True, timeout=60).stdout
         self.row("a name that isn't UTF-8", raw, strange + b":B\n")
         lost = subprocess.run([*WORDS, "read", strange + b"x"], env=environment(), stderr=subprocess.PIPE, timeout=60)
         self.row("one that isn't there", (lost.returncode, lost.stderr),
@@ -167,8 +160,7 @@ class Batches(PackageCase):
             self.ecc("write A -o", f"label.{kind}")
             self.says(f"an own {kind}", self.ecc("read", f"label.{kind}"), 2, "",
                       [f"label.{kind}: it is a", kind.upper(), "pixels"])
-        saved(here, "declared.svg",
-              '<?xml version="1.0"?>\n<!-- a label -->\n<svg xmlns="http://www.w3.org/2000/svg"/>')
+        saved(here, "declared.svg", '<?xml version="1.0"?>\n<!-- label -->\n<svg xmlns="http://www.w3.org/2000/svg"/>')
         self.says("an svg with a declaration", self.ecc("read declared.svg"), 2, "", ["it is an SVG"])
         saved(here, "archive.zip", b"PK\3\4" + bytes(40))
         self.says("something else", self.ecc("read archive.zip"), 2, "", ["neither a picture"])
@@ -177,17 +169,15 @@ class Batches(PackageCase):
             return
         run(["zint", "-o", "qr.png", "--scale", "3", "--quietzones", "-b", "58", "-d", "A QR code"], cwd=here)
         got = self.ecc("read qr.png")
-        self.says("another code", got, 1, "", ["ther codes, as QR codes, aren't read"])
+        self.says("another code", got, 1, "", ["no Data Matrix symbol was found", "but a QR code, which isn't one"])
         self.holds("no advice that doesn't help", "--border" not in got[2], got[2])
         white = pillow.Image.new("L", (90, 90), 255)
         white.save(os.path.join(here, "pages.tif"), save_all=True, append_images=[white])
-        with open(os.path.join(here, "pages.tif"), "r+b") as file:
-            file.truncate(os.path.getsize(file.name) - 50)
+        os.truncate(os.path.join(here, "pages.tif"), os.path.getsize(os.path.join(here, "pages.tif")) - 50)
         self.says("a page that is cut off", self.ecc("read pages.tif"), 2, "", ["ecc200: pages.tif: page 2"])
         pillow.Image.new("1", (9600, 9500), 1).save(os.path.join(here, "large.png"))
         got = self.ecc("read --time 1 large.png")
-        self.holds("no warnings of Pillow", got[0] == 3 and "Warning" not in got[2] and got[2].count("\n") == 1,
-                   str(got))
+        self.holds("no warnings", got[0] == 3 and "Warning" not in got[2] and got[2].count("\n") == 1, str(got))
 
     def test_locales(self):
         """JSON is the same in every locale."""
@@ -201,28 +191,21 @@ class Batches(PackageCase):
         bare = {**environment(), "LC_ALL": "C", "PYTHONUTF8": "0"}
         self.says("a word in a locale without its letters", run([*WORDS, "write", b"caf\xc3\xa9"], env=bare),
                   output=symbols(b"caf\xe9"))
-        self.says("one that isn't UTF-8", run([*WORDS, "write", b"A\xff"], env=bare), 1, "",
-                  ["character 2 is the byte FF"])
+        self.says("no UTF-8", run([*WORDS, "write", b"A\xff"], env=bare), 1, "", ["character 2 is the byte FF"])
         said = run([*WORDS, "read"], symbols("\u00e9\u20ac\U0001f600".encode(), b"\x80").encode(), env=bare)
         self.says("letters that the locale hasn't", said, output="\\u00e9\\u20ac\\U0001f600\n\\x80\n")
         told = json.loads(ecc("read --json --charset ascii", given=symbols(b"\xe9"))[1])
         self.row("no text in that charset", (told["text"], told["hex"]), (None, "e9"))
 
     def test_round_trips(self):
-        """Text is read as it was written."""
-        for message in ("\u00e9", "\u20ac", "\u00c3\u00a9", "na\u00efve \u65e5\u672c\u8a9e \U0001f600", "\u00ff\u00fe",
-                        "7\u00bd"):
-            grid = ecc("write", message)[1]
-            self.says(f"written and read, {message}", ecc("read", given=grid), output=message + "\n")
-            self.row(f"as JSON, {message}", json.loads(ecc("read --json", given=grid)[1])["text"], message)
-            self.row(f"by lines, {message}", ecc("write", given=message + "\n")[1], grid)
+        """What text is read as it was written, tests of messages say; here how that is told, and what is no text."""
+        self.row("by words and by lines", ecc("write", given="7\u00bd\n")[1], ecc("write", "7\u00bd")[1])
         help_of_read = " ".join(ecc("read --help")[1].split())
         self.holds("help says how a backslash is shown", "A backslash is printed as \\\\" in help_of_read, help_of_read)
         for name in ("hex", "undefined"):
             self.says(f"no charset of text, {name}", ecc("write --charset", name, "A"), 2, "", [f"no charset '{name}'"])
         got = ecc("write --charset idna a..b")
-        self.holds("a charset of names", got[0] == 1 and "label empty" in got[2] and "hexadecimal" not in got[2],
-                   str(got))
+        self.holds("names", got[0] == 1 and "label empty" in got[2] and "hexadecimal" not in got[2], str(got))
 
     def test_blocks_of_json(self):
         told = json.loads(ecc("read --json", given=text(hurt(5)))[1])

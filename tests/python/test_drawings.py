@@ -7,12 +7,13 @@ import warnings
 import zlib
 
 from tests.python.common import PACKAGE, PYTHON, SAMPLER, SHARED, PackageCase, clean, run
-from tests.support import needs, places
+from tests.support import places
 
 import ecc200
 from ecc200 import core, drawing, pictures
 
 MESSAGES = [b"123456", b"Mitsubadoor", b"A" * 44, b"caf\xe9 " * 30, b"7" * 1632]
+RECTANGLES = [(8, 18), (8, 144), (26, 40), (144, 144)]
 
 
 def pixels(data):
@@ -89,42 +90,21 @@ class Magnified:
         self.__array_interface__ = {**array, "shape": (side * times, side * times), "data": b"".join(rows)}
 
 
-@needs.library
 class Drawings(PackageCase):
     def test_png(self):
-        for message in MESSAGES:
-            rows = ecc200.write(message)
+        for rows in [*map(ecc200.write, MESSAGES), *(ecc200.write(b"Rect", size=size) for size in RECTANGLES)]:
+            sides = len(rows[0]), len(rows)
             for dots, quiet in ((1, 0), (1, 2), (3, 1), (8, 4)):
-                side = (len(rows) + 2 * quiet) * dots
                 width, height, found, metre = pixels(drawing.png(drawing.alone(rows, dots * 25.4 / 300, quiet), 300))
-                self.row(f"a PNG of {len(rows)} at {dots}", (width, height, metre), (side, side, 11811))
-                modules = [bytes(1 - row[x * dots + dots // 2] for x in range(quiet, quiet + len(rows)))
-                           for row in found[quiet * dots + dots // 2:(quiet + len(rows)) * dots:dots]]
-                self.row(f"its modules, {len(rows)} at {dots}", modules, rows)
-                self.row(f"its dark pixels, {len(rows)} at {dots}", sum(row.count(0) for row in found),
+                self.row(f"a PNG of {sides} at {dots}", (width, height, metre),
+                         (*((side + 2 * quiet) * dots for side in sides), 11811))
+                modules = [bytes(1 - row[x * dots + dots // 2] for x in range(quiet, quiet + sides[0]))
+                           for row in found[quiet * dots + dots // 2:(quiet + sides[1]) * dots:dots]]
+                self.row(f"its modules, {sides} at {dots}", modules, rows)
+                self.row(f"its dark pixels, {sides} at {dots}", sum(row.count(0) for row in found),
                          dots * dots * sum(map(sum, rows)))
         width, *_ = pixels(drawing.png(drawing.alone(ecc200.write(b"123456"), 0.5, 2), 300))
         self.row("half a millimetre at 300 dots an inch is six dots", width, 14 * 6)
-
-    def test_rendered(self):
-        """SVG and PDF, as others draw them, say what was written."""
-        pillow = self.needed("PIL.Image", "Pillow", "pictures as others draw them")
-        rows = ecc200.write(b"Mitsubadoor")
-        page = drawing.alone(rows, 0.5, 2)
-        tools = {"pdf": (drawing.pdf([page]), "pdftoppm", ["pdftoppm", "-r", "508", "-png", "-singlefile", "FILE",
-                                                           "STEM"]), "svg": (drawing.svg(page), "rsvg-convert",
-                                                                             ["rsvg-convert", "-d", "508", "-p", "508",
-                                                                              "-o", "PNG", "FILE"])}
-        for kind, (data, program, words) in tools.items():
-            if not self.has(program, f"{kind} as {program} draws it"):
-                continue
-            path, drawn = os.path.join(self.room, f"drawn.{kind}"), os.path.join(self.room, f"{kind}.png")
-            places.wrote(data, path)
-            status, _, errors = run([{"FILE": path, "PNG": drawn, "STEM": drawn[:-4]}.get(word, word) for word in
-                                     words])
-            self.holds(f"{program} draws {kind}", status == 0, errors)
-            small = pillow.Image.open(drawn).convert("L").resize((len(rows) + 4, len(rows) + 4), pillow.Image.BOX)
-            self.row(f"{kind} as {program} draws it", ecc200.read(small).data, b"Mitsubadoor")
 
     def test_sheets(self):
         symbols = [ecc200.write(b"%d" % number * (number % 40 + 1)) for number in range(100)]
@@ -135,8 +115,7 @@ class Drawings(PackageCase):
             inside, apart = laid(page)
             self.holds("on the page", inside)
             self.holds("no quiet zone is overlapped", apart)
-        self.raises("a symbol larger than the sheet", ValueError, "doesn't fit", lambda: drawing.sheets(symbols, 10.0,
-                                                                                                        2))
+        self.raises("one larger than the sheet", ValueError, "doesn't fit", lambda: drawing.sheets(symbols, 10.0, 2))
         self.row("pages of the PDF", drawing.pdf(pages).count(b"/Type /Page "), len(pages))
 
     def test_symbols(self):
@@ -177,11 +156,9 @@ class Drawings(PackageCase):
         run(["cc", "-shared", "-o", path, "-x", "c", "-"],
             f"unsigned short ecc200_sample_abi(void) {{ return {core._SAMPLE_ABI}; }}\n".encode())
         status, output, errors = run([PYTHON, "-c", asked], env=env)
-        self.holds("a library without the search", (status, output) == (1, "False\n") and "older than this" in errors,
-                   errors)
+        self.holds("no search", (status, output) == (1, "False\n") and "older than this" in errors, errors)
 
     def test_taken(self):
-        """Grids and symbols, in memory and in files; what is none of these is no empty list."""
         symbol, other = ecc200.encode(b"123456"), ecc200.encode("Mitsubadoor", charset="ascii")
         path = os.path.join(self.room, "two.txt")
         places.wrote(f"{symbol}\n{other}\n", path)
@@ -208,11 +185,9 @@ class Drawings(PackageCase):
             self.raises(f"decode of {name}", fault, "", lambda given=given: ecc200.decode(given))
 
     def test_saved(self):
-        """A symbol's file is of the kind that its name says, and is read again."""
         symbol = ecc200.encode(b"123456")
-        grid = str(symbol).encode()
         for name, wanted in {"a.png": symbol.png(600), "a.PNG": symbol.png(600), "a.svg": symbol.svg(),
-                             "a.pdf": symbol.pdf(), "a.txt": grid}.items():
+                             "a.pdf": symbol.pdf(), "a.txt": str(symbol).encode()}.items():
             path = pathlib.Path(self.room, name)
             symbol.save(path, dpi=600)
             self.row(f"saved as {name}", path.read_bytes(), wanted)
@@ -236,9 +211,8 @@ class Drawings(PackageCase):
         status, _, errors = run([PYTHON, "-c", lone.format(path)], env=env)
         self.holds("a picture without the sampler", status == 1 and "SamplerMissing" in errors, errors)
         small = os.path.join(self.room, "small.png")
-        ecc200.encode(b"123456", module=25.4 / 300).save(small)
-        self.row("a pixel a module without the sampler", run([PYTHON, "-c", lone.format(small)], env=env),
-                 (0, "['123456']\n", ""))
+        ecc200.encode(b"123456", module=25.4 / 300, size=(8, 32)).save(small)
+        self.row("a pixel a module", run([PYTHON, "-c", lone.format(small)], env=env), (0, "['123456']\n", ""))
         if not os.path.isfile(SAMPLER):
             self.leave_out("symbols in files of pictures (the library ecc200_sample isn't built)")
             return
@@ -257,8 +231,7 @@ class Drawings(PackageCase):
 
     def test_paged(self):
         """Each page of a TIFF and of a GIF is looked at, and a picture stands at its first page afterwards."""
-        pillow = self.needs_search("pages of pictures")
-        image = pillow.Image
+        image = self.needs_search("pages of pictures").Image
         pages, quickly = leaves(image), {"milliseconds": 300}
         for kind in ("tiff", "gif"):
             path = os.path.join(self.room, f"pages.{kind}")
@@ -270,8 +243,7 @@ class Drawings(PackageCase):
                 got = texts(picture, **quickly), picture.tell()
                 self.row(f"Pillow's {kind}", got, (["first", "first", "third"], 0))
                 picture.seek(2)
-                self.row(f"a later page of Pillow's {kind}", (texts(picture, **quickly), picture.tell()), (["third"],
-                                                                                                           2))
+                self.row(f"a later page, {kind}", (texts(picture, **quickly), picture.tell()), (["third"], 2))
         whole = places.read(self.room, "pages.tiff")
         with warnings.catch_warnings(record=True) as told:
             warnings.simplefilter("always")
@@ -316,51 +288,36 @@ class Drawings(PackageCase):
         self.holds("the sampler's library can be loaded", pictures.is_there())
         picture = pillow.Image.open(io.BytesIO(ecc200.encode(b"Mitsubadoor", quiet=4, module=1).png(dpi=203)))
         array = numpy.asarray(picture.convert("L"))
+        rows, colours = ecc200.write(b"Mitsubadoor"), numpy.stack([array] * 3, axis=2)
         for name, given in {"Pillow's": picture, "grey": picture.convert("L"), "colours": picture.convert("RGB"),
-                            "clear": picture.convert("RGBA"), "an array": array,
-                            "an array of colours": numpy.asarray(picture.convert("RGB")),
-                            "steps": numpy.repeat(array, 2, 1)[:, ::2], "bool": array > 100,
+                            "clear": picture.convert("RGBA"), "an array": array, "an array of colours": colours,
+                            "turned colours": numpy.rot90(colours), "a buffer": memoryview(array),
+                            "transparent": numpy.insert(colours, 3, 255, axis=2), "bool": array > 100,
+                            "a buffer of colours": memoryview(colours), "steps": numpy.repeat(array, 2, 1)[:, ::2],
                             "16 bits": pillow.Image.fromarray(array.astype(numpy.uint16) * 257),
-                            "32 bits": picture.convert("I"),
+                            "an array of 16 bits": array.astype(numpy.uint16) * 257,
+                            "32 bits": picture.convert("I"), "64 bits": array.astype(numpy.int64),
+                            "colours of 64 bits": colours.astype(numpy.int64),
                             "turned": picture.convert("L").rotate(30, expand=True, fillcolor=255),
                             "a quarter": picture.convert("L").rotate(90),
                             "light on dark": pillow.Image.fromarray(255 - array),
                             "mirrored": pillow.Image.fromarray(array[:, ::-1].copy())}.items():
-            self.row(f"in a picture, {name}", [symbol.answer.data for symbol in pictures.find(given, most=1)
-                                               if isinstance(symbol.answer, ecc200.Reading)], [b"Mitsubadoor"])
+            got = [(symbol.answer.data, symbol.rows, symbol.inverted) for symbol in pictures.find(given, most=1)]
+            self.row(f"in a picture, {name}", got, [(b"Mitsubadoor", rows, name == "light on dark")])
             self.row(f"decoded, {name}", [reading.data for reading in ecc200.decode(given, most=1)], [b"Mitsubadoor"])
         corners = pictures.find(picture, most=1)[0].corners
         self.holds("the corners", all(abs(x - wanted_x) < 8 and abs(y - wanted_y) < 8 for (x, y), (wanted_x, wanted_y)
                                       in zip(corners, [(32, 32), (160, 32), (160, 160), (32, 160)])), str(corners))
         self.row("nothing in a picture", pictures.find(pillow.Image.new("L", (200, 200), 255), milliseconds=50), [])
-        self.raises("an array of complex numbers", TypeError, "an array of rows of numbers",
-                    lambda: pictures.find(array.astype(complex)))
+        for name, given in (("complex numbers", array.astype(complex)), ("a line", array[0])):
+            self.raises(f"{name}", TypeError, "an array of rows of numbers", lambda given=given: pictures.find(given))
         symbol = ecc200.encode(b"A" * 9, quiet=4)
         self.row("a symbol, an array by its interface alone",
                  [reading.data for reading in ecc200.decode(Magnified(symbol, 5), most=1)], [b"A" * 9])
-        self.by_one_file(pillow.Image, numpy, array)
-
-    def by_one_file(self, image, numpy, array):
-        """The file core.py by itself finds what the package finds; `array` is a picture of a symbol."""
         spec = importlib.util.spec_from_file_location("one_file", places.MODULE)
         one = importlib.util.module_from_spec(spec)
         spec.loader.exec_module(one)
-        self.holds("the sampler by the file alone", one.has_sampler())
-        rows, colours = ecc200.write(b"Mitsubadoor"), numpy.stack([array] * 3, axis=2)
-        for name, given, is_inverted in [("upright", array, False), ("inverted", 255 - array, True),
-                                         ("colours", colours, False), ("turned colours", numpy.rot90(colours), False),
-                                         ("transparent", numpy.insert(colours, 3, 255, axis=2), False),
-                                         ("Pillow's", image.fromarray(array), False),
-                                         ("a buffer", memoryview(array), False),
-                                         ("16 bits", array.astype(numpy.uint16) * 257, False),
-                                         ("64 bits", array.astype(numpy.int64), False),
-                                         ("colours of 64 bits", colours.astype(numpy.int64), False),
-                                         ("a buffer of colours", memoryview(colours), False)]:
-            got = [(symbol.answer.data, symbol.rows, symbol.inverted) for symbol in one.find(given, most=1)]
-            self.row(f"found by the file alone, {name}", got, [(b"Mitsubadoor", rows, is_inverted)])
-        for name, given in [("an array", array), ("Pillow's", image.fromarray(array)), ("rows", rows)]:
-            self.row(f"decoded by the file alone, {name}", [reading.data for reading in one.decode(given, most=1)],
-                     [b"Mitsubadoor"])
-        for name, given in [("complex numbers", colours.astype(complex)), ("a line", array[0])]:
-            self.raises(f"no picture for the file alone, {name}", TypeError, "an array of rows of numbers",
-                        lambda given=given: one.find(given))
+        self.holds("the sampler by the file core.py alone", one.has_sampler())
+        for name, got in (("found", [symbol.answer for symbol in one.find(array, most=1)]), ("decoded",
+                          one.decode(array, most=1)), ("a grid decoded", one.decode(rows, most=1))):
+            self.row(f"by the file alone, {name}", [reading.data for reading in got], [b"Mitsubadoor"])

@@ -1,5 +1,4 @@
-"""GS1 element strings: the rules one by one, the table against zint's and python-stdnum's, and what is written and
-read."""
+"""GS1 element strings: the rules, the table against zint's and python-stdnum's, and what is written and read."""
 import random
 import re
 import string
@@ -7,15 +6,13 @@ import subprocess
 
 from tests import corpus
 from tests.python.common import PackageCase
-from tests.support import needs
 
 import ecc200
 from ecc200 import gs1
 from ecc200.spelling import spelled
 
 WORKED = "(01)09521234543213(17)251231(10)ABC123"
-# Of the values of these zint accepts fewer: it looks into countries, currencies, company prefixes and the like, which
-# the table leaves alone.
+# Of these zint accepts fewer: it looks into countries, currencies, prefixes and the like, and the table doesn't.
 STRICTER = ("394", "401", "43", "253", "255", "700", "701", "702", "704", "723", "80", "811")
 
 NUMBERS = [f"{number:03}" for number in range(1000)]
@@ -56,8 +53,7 @@ def sample(identifier, shortest, chance):
 
 
 def by_zint(text):
-    """What zint says of an element string: whether it knows the identifiers, and what it complains of, if of
-    anything."""
+    """What zint says of an element string: whether it knows the identifiers, and what it complains of."""
     data = re.sub(r"(?<!\\)\((\d+)\)", r"[\1]", text).replace("\\(", "(")
     done = subprocess.run(["zint", "-b", "71", "--gs1", "--square", "-d", data, "--direct", "--filetype=txt"],
                           stdout=subprocess.DEVNULL, stderr=subprocess.PIPE, timeout=60)
@@ -65,7 +61,6 @@ def by_zint(text):
     return "Invalid AI" not in said, said or (f"status {done.returncode}" if done.returncode else "")
 
 
-@needs.library
 class Elements(PackageCase):
     def test_worked(self):
         elements = gs1.parse(WORKED)
@@ -82,15 +77,13 @@ class Elements(PackageCase):
                  [256, *b"10ABC123", 256, *b"21X", 256, *b"0109521234543213", *b"3712", 256, *b"17251231"])
         self.row("FNC1 behind a fixed length that scanners don't know",
                  gs1.message(gs1.parse("(402)12345678901234560(10)A")), b"40212345678901234560\x1d10A")
-        self.row("a needless separator", gs1.split(b"0109521234543213\x1d10A\x1d"),
-                 [("01", "09521234543213"), ("10", "A")])
+        self.row("a separator", gs1.split(b"0109521234543213\x1d10A\x1d"), [("01", "09521234543213"), ("10", "A")])
         self.row("brackets in a value", accepted("(10)A\\(01)B"), "(10)A\\(01)B")
         self.row("in square ones", gs1.parse("[01]09521234543213[17]251231[10]ABC123"), elements)
         self.row("their bytes", gs1.message(gs1.parse("(10)A\\(01)B")), b"10A(01)B")
         self.row("encode", ecc200.encode(WORKED, gs1=True).rows, ecc200.write(gs1.message(elements), gs1=True))
 
     def test_read(self):
-        """The elements of what is read, and how that is shown."""
         reading = ecc200.read(ecc200.encode(WORKED, gs1=True))
         self.row("its elements", reading.elements, gs1.parse(WORKED))
         self.row("of a picture", [it.elements for it in ecc200.decode(ecc200.encode(WORKED, gs1=True))],
@@ -130,13 +123,11 @@ class Elements(PackageCase):
         self.row("unknown in a message passes", gs1.split(b"4327A\x1d10B", unknown=True), [("4327", "A"), ("10", "B")])
         self.raises("no identifier begins so", gs1.Faulty, "'55'", lambda: gs1.split(b"5512", unknown=True))
         self.raises("an empty message", gs1.Faulty, "no identifier", lambda: gs1.split(b""))
-        self.raises("a message that ends in an identifier", gs1.Faulty, "has 0", lambda:
-                    gs1.split(b"010952123454321310"))
+        self.raises("one that ends in an identifier", gs1.Faulty, "has 0", lambda: gs1.split(b"010952123454321310"))
         self.raises("bytes that aren't ASCII", gs1.Faulty, "in place 2", lambda: gs1.split(b"10a\xe9"))
 
     def test_table(self):
-        """Each identifier: values of the least and the greatest length pass, shorter and longer ones don't, and what is
-        written is read."""
+        """Each identifier: values of the least and greatest length pass, others don't, and what is written is read."""
         chance = random.Random(1)
         for identifier, known in gs1.identifiers().items():
             for shortest in (True, False):
@@ -151,8 +142,7 @@ class Elements(PackageCase):
             self.holds(f"({identifier}) empty", "has 0" in accepted(f"({identifier})"))
             self.row(f"({identifier}) is fixed as scanners know it", known.fixed, identifier[:2] in gs1._LENGTHS)
             if known.fixed:
-                self.row(f"the length of ({identifier})", sum(part.most for part in known.parts),
-                         gs1._LENGTHS[identifier[:2]])
+                self.row(f"({identifier})", sum(part.most for part in known.parts), gs1._LENGTHS[identifier[:2]])
         for digits, wanted in (("629104150021", "3"), ("0952123454321", "3"), ("9521234543213"[:12], "3"),
                                ("00000000000000000", "0")):
             self.row(f"the check digit of {digits}", gs1.check_digit(digits), wanted)

@@ -6,7 +6,7 @@ import subprocess
 from tests.python.common import SAMPLER, WORDS, PackageCase, at_terminal, ecc, environment, run
 from tests.python.test_batches import symbols
 from tests.python.test_drawings import laid, pixels
-from tests.support import needs, places, work
+from tests.support import places, work
 
 import ecc200
 from ecc200 import drawing, font
@@ -23,23 +23,21 @@ def of_blocks(lines, quiet):
 
 
 def lines_of(name):
-    """The lines of text that pdftotext finds, and their letters' places."""
     return run(["pdftotext", "-layout", name, "-"])[1].split()
 
 
-# ---- Names, formats, standard output
-
-
-@needs.library
 class Labels(PackageCase):
     def test_captions(self):
         """The text below a symbol: GS1 data with its brackets, and other text with the letters that were given."""
         here = self.made("captions")
         for kind in ("svg", "pdf", "png"):
-            self.says(f"GS1 in {kind}", self.ecc("write --gs1", GS1, "--caption", "-o", f"gs1.{kind}"), output="")
+            for shape in ("rectangle", "square"):
+                got = self.ecc("write --shape", shape, "--gs1", GS1, "--caption", "-o", f"gs1.{kind}")
+                self.says(f"GS1 in {kind}, {shape}", got, output="")
+                if kind == "svg":
+                    lines = re.findall(">([^<]+)</text>", places.text_of(here, "gs1.svg"))
+                    self.row(f"lines of elements, {shape}", lines, ["(01)09521234543213", "(17)251231(10)ABC123"])
             self.says(f"text in {kind}", self.ecc("write --caption -o", f"text.{kind}", "a<b & \"c\" (d\\"), output="")
-        self.row("its lines, elements whole", re.findall(">([^<]+)</text>", open(os.path.join(here, "gs1.svg")).read()),
-                 ["(01)09521234543213", "(17)251231(10)ABC123"])
         drawn = open(os.path.join(here, "text.svg")).read()
         self.row("letters of XML", re.findall(">([^<]+)</text>", drawn), ['a&lt;b &amp; "c" (d\\'])
         if self.has("pdftotext", "captions of PDF"):
@@ -52,18 +50,15 @@ class Labels(PackageCase):
                   errors=["symbol 1", "'\u65e5'", ".svg"])
         for letters in ("Gr\u00f6\u00dfe 5 \u20ac", "\u00c5ngstr\u00f6m na\u00efve fa\u00e7ade \u0160koda", "e\u0301"):
             self.says(f"letters that a PNG has, {letters}", self.ecc("write --caption -o a.png", letters), output="")
-        self.says("a letter that a PDF hasn't", self.ecc("write", "\u65e5", "--caption", "-o", "a.pdf"),
-                  errors=["'\u65e5'"])
+        self.says("none in a PDF", self.ecc("write", "\u65e5", "--caption", "-o", "a.pdf"), errors=["'\u65e5'"])
         self.says("a letter that an SVG has", self.ecc("write", "\u65e5", "--caption", "-o", "a.svg"), output="")
         self.says("a grid has none", self.ecc("write A --caption -o a.txt"), 2, "", ["--caption"])
         grid = ecc("write --gs1", GS1)[1]
         self.says("normal with a caption", self.ecc("normal --caption -o normal.svg", given=grid), output="")
-        with open(os.path.join(here, "normal.svg")) as normal, open(os.path.join(here, "gs1.svg")) as gs1:
-            self.row("is the same label", normal.read(), gs1.read())
+        self.row("is the same label", *(places.text_of(here, f"{it}.svg") for it in ("normal", "gs1")))
 
     def test_letters_of_dots(self):
-        """Letters in a PNG: an L is a stroke down and one to the right. None is in the quiet zone or off the
-        picture."""
+        """Letters in a PNG: an L is a stroke down and one to the right. None is in the quiet zone or cut off."""
         rows = ecc200.write(b"L")
         dots, quiet = 4, 2
         page = drawing.alone(rows, dots * 25.4 / 300, quiet, ["L"], 2 * 25.4 / 300)
@@ -79,8 +74,7 @@ class Labels(PackageCase):
             self.holds(f"the accent of {accented} stands above",
                        sum(rows_of[1][:top]) >= 2 and (plain == "U" or not rows_of[1][top - 1]))
         self.row("an i loses its dot", sum(font.glyph("\u00ee")[2] >> row & 1 for row in (2, 3)), 0)
-        self.row("the symbol is the same", found[:side],
-                 pixels(drawing.png(drawing.alone(rows, dots * 25.4 / 300, quiet), 300))[2])
+        self.row("the symbol", found[:side], pixels(drawing.png(drawing.alone(rows, dots * 25.4 / 300, quiet), 300))[2])
         self.row("as wide as without", width, side)
         for caption, quiet in (["W" * 50], 0), (["(10)" + "W" * 16], 5):
             width, height, found, _ = pixels(drawing.png(drawing.alone(rows, dots * 25.4 / 300, quiet, caption), 300))
@@ -95,8 +89,7 @@ class Labels(PackageCase):
         """Each symbol on a sheet has its caption below it, and nothing overlaps."""
         here = self.made("sheets")
         messages = [f"SN-{number:04}" for number in range(40)]
-        self.says("a sheet with captions", self.ecc("write --sheet --caption -o sheet.pdf", given="\n".join(messages)),
-                  output="")
+        self.says("a sheet", self.ecc("write --sheet --caption -o sheet.pdf", given="\n".join(messages)), output="")
         if self.has("pdftotext", "captions of sheets"):
             self.row("all captions", sorted(lines_of(os.path.join(here, "sheet.pdf"))), messages)
         rows = [ecc200.write(message.encode()) for message in messages]
@@ -115,7 +108,6 @@ class Labels(PackageCase):
             self.holds("compare doesn't choose one", got[0] >= 2 and "there must be one symbol" in got[2], str(got))
 
     def test_names(self):
-        """Files that are named by their messages."""
         here = self.made("names")
         got = self.ecc("write -o", "lot-{}.svg", "--", "A/1", "../etc", "A:1", "A 1", "caf\u00e9", "", "x" * 300, "-rf")
         self.says("names from messages", got, output="")
@@ -123,8 +115,7 @@ class Labels(PackageCase):
                  sorted(["lot-A_1.svg", "lot-etc.svg", "lot-A_1-3.svg", "lot-A_1-4.svg", "lot-caf\u00e9.svg",
                          "lot-empty.svg", f"lot-{'x' * 150}.svg", "lot-rf.svg"]))
         self.says("grids in files of their own", self.ecc("write -o", "{}.txt", "A", "B"), output="")
-        self.row("one grid each", [open(os.path.join(here, f"{name}.txt")).read() for name in "AB"],
-                 [symbols(b"A"), symbols(b"B")])
+        self.row("one grid each", [places.text_of(here, f"{it}.txt") for it in "AB"], [symbols(b"A"), symbols(b"B")])
         self.says("GS1", self.ecc("write --gs1 -o", "{}.svg", GS1), output="")
         self.holds("its name", os.path.isfile(os.path.join(here, "01_09521234543213_17_251231_10_ABC123.svg")),
                    str(os.listdir(here)))
@@ -133,8 +124,7 @@ class Labels(PackageCase):
         self.says("a file that can't be written", got, 2, "", ["ecc200: in the way.svg: Is a directory"])
         self.row("the others are", [name for name in sorted(os.listdir(here)) if "way" in name],
                  ["by the way.svg", "in the way.svg", "on the way.svg"])
-        self.says("a sheet can't be named so", self.ecc("write -o", "{}.pdf", "--sheet", "--", "A"), 2, "",
-                  ["a sheet has several"])
+        self.says("a sheet", self.ecc("write -o", "{}.pdf", "--sheet", "--", "A"), 2, "", ["a sheet has several"])
         self.says("an end in capitals", self.ecc("write -o LABEL.PNG A"), output="")
         self.row("is a PNG", open(os.path.join(here, "LABEL.PNG"), "rb").read(4), b"\x89PNG")
         self.says("a name without an end", self.ecc("write -o label --format pdf A"), output="")
@@ -142,7 +132,6 @@ class Labels(PackageCase):
         self.says("--sheet without -o", self.ecc("write --sheet -- A"), 2, "", ["-o FILE"])
 
     def test_output(self):
-        """Pictures on standard output."""
         here = self.made("output")
 
         def out(*words):
@@ -153,8 +142,7 @@ class Labels(PackageCase):
         for kind in ("png", "svg", "pdf"):
             self.ecc("write A -o", f"a.{kind}")
             data = places.read(here, f"a.{kind}")
-            self.row(f"--format {kind}",
-                     [out("A", "--format", kind), out("A", "-o", "-", "--format", kind)], [(0, data)] * 2)
+            self.row(kind, [out("A", "--format", kind), out("A", "-o", "-", "--format", kind)], [(0, data)] * 2)
         self.row("-o -", out("A", "-o", "-"), (0, symbols(b"A").encode()))
         self.row("no file of that name", os.path.exists(os.path.join(here, "-")), False)
         status, pages = out("A", "B", "C", "--format", "pdf")
@@ -188,8 +176,7 @@ class Labels(PackageCase):
                             (("--module", "0.1mm", "--dpi", "100"), "1 dot, 0.254 mm"), ((), ""),
                             (("--dpi", "72"), "1 dot, 0.353 mm"), (("--module", "2", "--dpi", "203"), ""),
                             (("--module", "0.25mm", "--dpi", "203"), "")]:
-            self.says(f"a PNG, {words}", self.ecc("write A -o a.png", *words), output="",
-                      errors=[said] if said else None)
+            self.says(f"PNG {words}", self.ecc("write A -o a.png", *words), output="", errors=[said] if said else None)
             self.says(f"an SVG, {words}", self.ecc("write A -o a.svg", *words), output="")
         for name, more in (("quiet", {"quiet": -3}), ("module", {"module": -1}), ("module 0", {"module": 0.0}),
                            ("module nan", {"module": float("nan")})):
@@ -199,8 +186,7 @@ class Labels(PackageCase):
             self.raises(f"a sheet, {name}", ValueError, "unlike",
                         lambda more=more: drawing.sheets([ecc200.write(b"A")], **{"module": 1.0, "quiet": 1, **more}))
         self.raises("a resolution", ValueError, "unlike -1", lambda: ecc200.encode(b"A").png(dpi=-1))
-        self.raises("a picture of too many dots", ValueError, "too large",
-                    lambda: ecc200.encode(b"A", module=1000).png(dpi=100000))
+        self.raises("too many dots", ValueError, "too large", lambda: ecc200.encode(b"A", module=1000).png(dpi=100000))
 
     def test_first_symbols(self):
         """Many pictures of one symbol each take a time far below the second that a search for all takes."""
@@ -212,6 +198,5 @@ class Labels(PackageCase):
             with work.measured() as took:
                 status, read, _ = self.ecc("read -r --no-filename", *words)
             pieces[words] = took.pieces
-            self.row(f"many pictures {words}", (status, read.split("\n")[:2], read.count("\n")),
-                     (0, ["number 0", "number 1"], 100))
+            self.row(f"{words}", (status, read.split("\n")[:2], read.count("\n")), (0, ["number 0", "number 1"], 100))
         self.holds("the first alone takes less", pieces[()] < pieces[("--all", )], str(pieces))

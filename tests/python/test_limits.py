@@ -1,5 +1,4 @@
-"""What is damaged, endless, or too large for the memory or for a number ends by itself, and keeps nothing else from
-being answered."""
+"""What is damaged, endless, or too large for memory or a number ends by itself, and keeps nothing else back."""
 import contextlib
 import io
 import os
@@ -11,7 +10,7 @@ from unittest import mock
 from tests.python.common import PackageCase, ecc
 from tests.python.test_batches import saved, shell, symbols
 from tests.python.test_surface import text
-from tests.support import needs, places
+from tests.support import places
 
 import ecc200
 from ecc200 import core, drawing, gs1
@@ -20,7 +19,6 @@ ENDLESS = "tr '\\0' {} < /dev/zero"
 
 
 def picture_of(message):
-    """A label as a Pillow picture."""
     from PIL import Image
     return Image.open(io.BytesIO(ecc200.encode(message, quiet=4).png())).convert("L")
 
@@ -58,7 +56,6 @@ class Short:
         return bytes(99)
 
 
-@needs.library
 class Limits(PackageCase):
     def test_damaged(self):
         """Each file is answered or named, whatever the others are, and each page that can be opened."""
@@ -69,8 +66,7 @@ class Limits(PackageCase):
             picture_of(message).save(os.path.join(here, name))
         with_empty_directory(os.path.join(here, "next.tif"))
         picture_of(b"3").save(os.path.join(here, "three.tif"), save_all=True, append_images=[picture_of(b"5")])
-        with open(os.path.join(here, "three.tif"), "r+b") as file:
-            file.truncate(os.path.getsize(file.name) - 50)
+        os.truncate(os.path.join(here, "three.tif"), os.path.getsize(os.path.join(here, "three.tif")) - 50)
         output = "first.png:1\nnext.tif:2\nthree.tif:3\nlast.png:4\n"
         for jobs in ("1", "3"):
             got = self.ecc("read --jobs", jobs, *names)
@@ -129,15 +125,13 @@ class Limits(PackageCase):
         usual_page = sources._of_page
         with mock.patch.object(sources, "_of_page", lambda name, page, number, search: usual_page(
                 name, None if number == 2 else page, number, search)):
-            self.says("a page by itself", by_main("read", pages), 2, "1\n3\n",
-                      ["page 2 of the picture can't be searched"])
+            self.says("one page", by_main("read", pages), 2, "1\n3\n", ["page 2 of the picture can't be searched"])
         for error in (RuntimeError, MemoryError):
             with mock.patch.object(ThreadPoolExecutor, "submit", side_effect=error):
                 self.says(f"{error.__name__} of a thread", by_main("read", "--jobs", "2", *names),
                           output="".join(f"{name}:{number}\n" for number, name in enumerate(names)))
 
     def test_endless(self):
-        """Input without an end has a bound."""
         here = self.made("endless")
         rows = [("a row of a grid", f"{ENDLESS.format('1')} | $E read", 2, "more than 4096 characters"),
                 ("a row of doubtful modules", f"$E read --doubtful <({ENDLESS.format('1')}) label.txt", 2,
@@ -174,8 +168,7 @@ class Limits(PackageCase):
                 for call in (ecc200.find, ecc200.decode)[:1 + (name != "margin")]:
                     self.raises(f"{call.__name__}, {name}={value}", ValueError,
                                 f"{name} is a whole number from {least}", lambda: call(square, **{name: value}))
-            self.raises(f"{name}, half a number", TypeError, f"{name} is a whole number", lambda: ecc200.find(
-               square, **{name: 1.5}))
+            self.raises(name, TypeError, f"{name} is a whole number", lambda: ecc200.find(square, **{name: 1.5}))
         grid = core.write(b"A")
         calls = core.read, core.normal, ecc200.decode, lambda it, border_limit: core.read_many([it], border_limit)
         for call, given in (*((call, grid) for call in calls), (ecc200.decode, square)):
@@ -186,8 +179,7 @@ class Limits(PackageCase):
         self.raises("a border limit in words", TypeError, "border_limit", lambda: core.read(grid, "none"))
         self.row("a large one", core.read(grid, 2**64), core.read(grid))
         for call in (ecc200.encode, core.write):
-            self.raises("a number as a message", TypeError, "text, bytes, or a list of items, unlike 123456",
-                        lambda: call(123456))
+            self.raises("a number", TypeError, "text, bytes, or a list of items, unlike 123456", lambda: call(123456))
         self.raises("items that are none", gs1.Faulty, "70000 is no item", lambda: gs1.split([48, 70000]))
         for size, margin in (((float("inf"), 5), 1), ((float("nan"), 5), 1), ((-5, 5), 1), ((5, 5), float("nan")),
                              ((5, 5), -float("inf"))):

@@ -1,5 +1,4 @@
-"""The command ecc200: text, ECI, structured append, reader programming and forms, written, read, joined, compared and
-explained."""
+"""The command ecc200: text, ECI, structured append, reader programming and forms, in each subcommand."""
 import json
 import random
 import re
@@ -19,7 +18,6 @@ FORMS = {(): Form.SMALLEST, ("--form", "smallest"): Form.SMALLEST, ("--form", "a
 
 
 def grids(output):
-    """The grids of an output, as rows."""
     return [record.split() for record in output.split("\n\n") if record]
 
 
@@ -55,10 +53,6 @@ def dealt_anew(rows):
                   for place, module in zip(*pair)) for pair in zip(places, rows)]
 
 
-# ---- Spellings
-
-
-@needs.library
 class Messages(PackageCase):
     def test_vectors(self):
         """All marks of zint are read, told in JSON, normalised, checked, explained and written again."""
@@ -140,7 +134,6 @@ class Messages(PackageCase):
             self.holds(f"{words} by zxing-cpp", told in output.splitlines(), output)
 
     def test_charsets(self):
-        """Which bytes and marks are written of a text."""
         for words, wanted in [
             (("caf\u00e9",), r"caf\xE9"), (("\u00c3\u00a9",), r"\E{3}\xC3\xA9"), (("20 \u00b0C",), r"\E{3}20 \xB0C"),
             (("\u65e5",), r"\E{26}\xE6\x97\xA5"), (("--charset", "utf-8", "\u65e5"), r"\xE6\x97\xA5"),
@@ -214,19 +207,15 @@ class Messages(PackageCase):
                  (None, "utf-8", "e9", r"\E{26}\xE9"))
 
     def test_forms(self):
-        """Which symbol is written."""
         for message in (b"123456", b"Mitsubadoor", b"ABC.DEF-GHI/JKL+MNO*123", b"\xff" * 30,
                         b"[)>\x1e05\x1dAB\x1dCD\x1e\x04"):
             for words, form in FORMS.items():
                 self.says(f"write {words} {message!r}", ecc("write", *words, "--hex", message.hex()),
                           output=text(ecc200.write(message, form=form)))
             basic = ecc("write --basic --hex", message.hex())[1]
-            self.row(f"--basic {message!r}", basic, text(ecc200.write(message, form=Form.SMALLEST,
-                                                                      extent=Extent.USUAL)))
-            self.row(f"it is read with --usual, {message!r}", ecc("read --usual --hex", given=basic)[1],
-                     message.hex() + "\n")
-        self.row("--shorter is --form shorter", ecc("write --shorter --hex", "80" * 9),
-                 ecc("write --form shorter --hex", "80" * 9))
+            self.row(f"basic {message!r}", basic, text(ecc200.write(message, form=Form.SMALLEST, extent=Extent.USUAL)))
+            self.row(f"read --usual, {message!r}", ecc("read --usual --hex", given=basic)[1], message.hex() + "\n")
+        self.row("--shorter", ecc("write --shorter --hex", "80" * 9), ecc("write --form shorter --hex", "80" * 9))
         largest = max(ecc200.sizes(), key=lambda size: size.data_codewords)
         for message in [b"7" * 3116, b"A" * 2335, b"\xff" * 1556]:
             longer = message + message[:1]
@@ -298,8 +287,7 @@ class Messages(PackageCase):
         saved(self.room, "other file", ecc("write --append 2/3:009009 other")[1])
         got = ecc("join 1 2 3", "other 2", "other file", folder=self.room)
         self.says("two contents beside another file", got, 1, "", [": 2, symbol 1; other 2, symbol 1\n", "file 009009"])
-        self.row("two contents in JSON",
-                 json.loads(ecc("join --json 1 2 3", "other 2", folder=self.room)[1])["doubled"], [2])
+        self.row("two in JSON", json.loads(ecc("join --json 1 2 3", "other 2", folder=self.room)[1])["doubled"], [2])
         saved(self.room, "none", ecc("write none")[1])
         got = ecc("join 1", "other file", "none", "2", "3", folder=self.room)
         self.says("parts of another file, and no parts", got, 1, whole,
@@ -314,8 +302,7 @@ class Messages(PackageCase):
                   output="20 \u2591C, othercaf\u0398\n")
         self.says("no such charset", ecc("join --charset x 1", folder=self.room), 2, "", ["no charset 'x'"])
         lost = saved(self.room, "lost", text([bytes(10)] * 10))
-        self.says("one isn't read", ecc("join", lost, "1", "2", "3", folder=self.room), 1, whole,
-                  ["lost, symbol 1: 27 of"])
+        self.says("one unread", ecc("join", lost, "1", "2", "3", folder=self.room), 1, whole, ["lost, symbol 1: 27 of"])
         self.says("--usual", ecc("join --usual 1 2 3", folder=self.room), 1, "", ["leave out --usual"])
         elements = ecc("write --append 1/2 --gs1", "(10)A")[1] + ecc("write --append 2/2 B")[1]
         self.says("GS1 data", ecc("join", given=elements), output="(10)AB\n")
@@ -325,19 +312,31 @@ class Messages(PackageCase):
             self.row("parts in a picture", ecc("join --most 3 sheet.png", folder=self.room)[1], whole)
 
     def test_compared(self):
-        """What is the same, and what differs in marks, bytes and identifiers."""
+        """What is the same, and what differs in items, marks, bytes and identifiers; what can't be compared."""
         def kept(name, items, **more):
             return saved(self.room, name, text(ecc200.write(items, **more)))
         plain, marked = kept("plain", b"\xe9"), kept("marked", b"\xe9", marks=[(0, 3)])
         coded, other = kept("coded", "\u00e9".encode(), marks=[(0, 26)]), kept("other", b"\xe8")
+        three, letter = kept("three", b"\x80" * 3), kept("letter", b"A")
         for pair, status, end in [
-            ((plain, plain), 0, "the same"),
+            ((plain, plain), 0, "the same"), ((three, kept("shorter", b"\x80" * 3, profile=1)), 0, "the same"),
             ((plain, marked), 1, "different: their ECI marks differ, which say how the bytes are meant"),
             ((plain, coded), 1, "different: they say the same text in other bytes, iso-8859-1 and utf-8"),
             ((plain, other), 1, "different: they differ from item 1 on"),
+            ((three, kept("four", b"\x80" * 4)), 1, "different: they differ from item 4 on"),
+            ((kept("gs", [256, 65, 0x1D, 66]), kept("fnc1", [256, 65, 256, 66])), 1, "has the byte 0x1D"),
+            ((letter, kept("elements", b"A", gs1=True)), 1, "and the other isn't"),
         ]:
             got = ecc("compare", *pair)
-            self.row(f"{pair}", (got[0], got[1].splitlines()[-1], got[2]), (status, end, ""))
+            self.holds(f"{pair}", got[0] == status and got[1].endswith(f"{end}\n") and not got[2], str(got))
+        lost = saved(self.room, "lost", text([bytes(10)] * 10))
+        for name, pair, part in [("one isn't read", (plain, lost), "27 of the 36"),
+                                 ("one isn't there", (plain, lost + "x"), "No such file"),
+                                 ("two in one", (plain, saved(self.room, "two", text(ecc200.write(b"A")) * 2)),
+                                  "there are 2"),
+                                 ("none in one", (saved(self.room, "empty", ""), plain), "there are no grids")]:
+            got = ecc("compare", *pair)
+            self.holds(name, got[0] >= 2 and part in got[2], str(got))
         self.holds("texts are shown", f"{coded}: \u00e9 (" in ecc("compare", plain, coded)[1])
         size = model.SIZE_OF[10, 10]
         modules = model.modules_of(size, model.codewords(size, (236, 232, 66)))  # a macro, and FNC1 as second codeword
@@ -348,7 +347,6 @@ class Messages(PackageCase):
                       "the same"], ""))
 
     def test_explained(self):
-        """Each codeword is explained, in the encodation in which it stands."""
         for items, marks, parts in [
             (b"A", [(0, 26)], ["1    241  ASCII       an ECI", "2     27  ECI         ECI 26, utf-8",
                                "It says A\nIts charset is utf-8\nIts symbology identifier is ]d4\n"]),
@@ -379,8 +377,7 @@ class Messages(PackageCase):
         chance = random.Random(16022)
         for number in range(150):
             items, marks, head = some_letter(chance)
-            self.row(f"letter {number}, spelled", of_spelling(spelled(items, marks, head), "ascii"), (items, marks,
-                                                                                                      head))
+            self.row(f"spelled {number}", of_spelling(spelled(items, marks, head), "ascii"), (items, marks, head))
             for form in Form:
                 reading = explaining.explain(ecc200.write(items, marks=marks, head=head, form=form)).reading
                 self.row(f"letter {number}, {form.name}", reading and (list(reading.items), list(reading.marks),
@@ -402,7 +399,6 @@ class Messages(PackageCase):
         self.row("of the usual one", blocks.findall(ecc("explain", given=text(rows))[1])[:3], ["9", "10", "1"])
 
     def test_spellings(self):
-        """What is spelled is read as it was, with marks and heads."""
         for items, marks, head, wanted in [
             (b"AB", [(1, 26)], None, r"A\E{26}B"),
             (b"AB", [(0, 3), (1, 26), (1, 9), (2, 0)], None, r"\E{3}A\E{26}\E{9}B\E{0}"),
@@ -410,13 +406,16 @@ class Messages(PackageCase):
         ]:
             self.row(f"spelled {wanted}", spelled(items, marks, head), wanted)
             self.row(f"spelled and back {wanted}", of_spelling(wanted, "ascii"), (list(items), marks, head))
+        everything = [*range(256), 256]
+        self.row("spelled and back", of_spelling(spelled(everything), "latin-1"), (everything, [], None))
+        for wrong in ("\\", "\\q", "\\x1", "\\xg0"):
+            self.raises(f"{wrong}", Misspelled, "backslash", lambda wrong=wrong: of_spelling(wrong, "latin-1"))
+        self.row("shown without a mark", [shown(b"A\\"), shown(b"\xe9"), shown("\u00e9".encode()),
+                                          shown(b"\xe9", (), "cp1252"), shown([256, 233])],
+                 ["A\\\\", "\u00e9", "\u00e9", "\u00e9", "\\F\\xE9"])
         self.row("shown", [shown(b"A\\\xe9", [(0, 3)]), shown(b"\xe9", [(0, 200)]), shown([256, 65], [(1, 3)])],
                  ["A\\\\\u00e9", r"\E{200}\xE9", r"\F\E{3}A"])
         self.row("parts", [of_part("2/5"), of_part("16/16:254001")], [(2, 5, 1, 1), (16, 16, 254, 1)])
         for wrong in ("0/5", "6/5", "1/1", "1/17", "2/5:000001", "2/5:001255", "2/5:1001", "2", "a/b", "2/5:",
                       "02/005"):
-            try:
-                got = of_part(wrong)
-            except Misspelled:
-                got = Misspelled
-            self.row(f"no part, {wrong}", got, Misspelled)
+            self.raises(f"no part, {wrong}", Misspelled, "", lambda wrong=wrong: of_part(wrong))

@@ -1,14 +1,13 @@
 """The wheel: built, installed without network, and used in clean environments; what mypy says of the package."""
 import os
 import pwd
-import re
 import shutil
 import zipfile
 
 from tests import corpus
 from tests.python.common import PACKAGE, PYTHON, SAMPLER, SHARED, TOP, VERSION, PackageCase, clean, libraries, run
-from tests.support import needs, places
-from tests.support.glibc import many_linux
+from tests.support import places
+from tests.support.glibc import many_linux, needed_packages
 
 import ecc200
 
@@ -92,7 +91,6 @@ def built(folder):
     return os.path.join(copy, "library", "python", output.strip()) if status == 0 else None, output + errors
 
 
-@needs.library
 class Packaged(PackageCase):
     def test_typed(self):
         """What mypy says, strictly, of the package and of a program that uses it."""
@@ -118,12 +116,9 @@ class Packaged(PackageCase):
         for line in (f"Version: {VERSION}", "License: MIT OR Apache-2.0"):
             self.holds(f"the wheel says {line}", line + "\n" in described, described)
         if os.path.isfile(SAMPLER) and self.has("readelf", "what the sampler needs"):
-            needed = re.findall(r"\(NEEDED\).*\[(.*)\]", run(["readelf", "-d", SAMPLER])[1])
-            told = [run(["dpkg-query", "-S", f"*/x86_64-linux-gnu/{name}"])[1] for name in needed if "ecc200" not in
-                    name]
-            owners = {line.split(":")[0] for line in told} - {"libc6"}
+            owners = needed_packages([SAMPLER])
             self.row("packages that the wheel needs and doesn't name", [it for it in owners if it not in described], [])
-            self.holds("they are known", any("libecc200" in name for name in needed), str(needed))
+            self.holds("they are known", "libecc200.so" in run(["readelf", "-d", SAMPLER])[1])
         if self.has("readelf", "what the wheel needs of glibc"):
             wanted, foreign = many_linux([it for it in (SHARED, SAMPLER) if os.path.isfile(it)], "x86_64")
             self.row("what its libraries need beside glibc", foreign, set())
@@ -140,8 +135,7 @@ class Packaged(PackageCase):
         if status:
             self.leave_out("the installed wheel (python3-venv isn't installed)")
             return
-        alone = ["unshare", "-n"] if os.geteuid() == 0 and self.has("unshare",
-                                                                    "installing with no network at all") else []
+        alone = ["unshare", "-n"] if os.geteuid() == 0 and self.has("unshare", "installing with no network") else []
         status, output, errors = run([*alone, *pip, "install", "--no-index", "--no-cache-dir", wheel],
                                      env=clean(HOME=folder))
         self.holds("pip install without network", status == 0, output + errors)
@@ -175,8 +169,7 @@ class Packaged(PackageCase):
         self.row(f"marks of others {name}", (status, len(output.splitlines())), (0, 147))
 
     def test_from_system(self):
-        """One file, and a library where the system keeps its own: found without ECC200_LIBRARY, and without a compiler
-        on the path."""
+        """One file, and a library where the system keeps its own: found without ECC200_LIBRARY and a compiler."""
         place = os.path.join(self.room, "one")
         os.makedirs(place)
         shutil.copy(places.MODULE, os.path.join(place, "ecc200.py"))

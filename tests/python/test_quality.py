@@ -1,10 +1,8 @@
-"""How good the print of a symbol is, through Python and the command; tests/sampler compares its numbers with what is
-drawn."""
+"""How good the print of a symbol is, through Python and the command; tests/sampler compares its numbers."""
 import json
 import os
 
 from tests.python.common import PackageCase, ecc
-from tests.support import needs
 
 import ecc200
 from ecc200.quality import in_lines, rounded
@@ -21,7 +19,6 @@ LINES = """    print, of this picture, uncalibrated: no verifier's report
     weakest place: nothing is weak"""
 
 
-@needs.library
 class Quality(PackageCase):
     def marked(self):
         """A picture of a symbol, if all that this needs is there."""
@@ -47,11 +44,9 @@ class Quality(PackageCase):
             hurt[row][2:8] = bytes(1 - module for module in hurt[row][2:8])
         answers = ecc200.find(ecc200.Symbol([bytes(row) for row in hurt]).png(), unread=True, quality=True)
         lost = [it.quality for it in answers if isinstance(it.answer, ecc200.Refused)]
-        self.row("of what isn't read", [(it.unused, it.grades["unused"], it.border.left) for it in lost],
-                 [((0.0,), "F", 0)])
+        self.row("unread", [(it.unused, it.grades["unused"], it.border.left) for it in lost], [((0.0,), "F", 0)])
 
     def test_command(self):
-        """By the command: below the message, and in JSON; and what has no print."""
         path = self.marked()
         status, output, errors = ecc("read --quality", path)
         self.holds("below the message", (status, errors) == (0, "") and output.startswith(f"123456\n{LINES}"), output)

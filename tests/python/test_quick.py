@@ -6,7 +6,7 @@ import random
 from unittest import mock
 
 from tests.python.common import PYTHON, WORDS, PackageCase, ecc, environment, run
-from tests.support import needs, work
+from tests.support import work
 
 import ecc200
 from ecc200 import advice, drawing
@@ -36,15 +36,13 @@ def plainly(rows):
                  for lines in (rows, list(zip(*rows))))
 
 
-@needs.library
 class Quick(PackageCase):
     def test_starts(self):
         """A start imports no more than it needs."""
         for words, needed in ((["write", "123456"], set()), (["read"], {"ecc200.reporting", "ecc200.explaining"})):
             status, _, errors = run([PYTHON, "-c", STARTED, *words], env=environment())
             imported = set(errors.split())
-            self.holds(f"modules of {words} are listed", not status and {"ecc200.core", "argparse", *needed} <=
-                       imported, errors)
+            self.holds(f"modules of {words}", not status and {"ecc200.core", "argparse", *needed} <= imported, errors)
             self.row(f"modules that {words} doesn't need", sorted((HEAVY - needed) & imported), [])
 
     def test_reduced(self):
@@ -90,6 +88,5 @@ class Quick(PackageCase):
         ecc("write -o lot.png", given="\n".join(map(str, range(30))), folder=self.room)
         for number in (1, 17, 30):
             ecc("write", str(number - 1), "-o", "one.png", folder=self.room)
-            one, lot = (open(os.path.join(self.room, name), "rb").read() for name in ("one.png",
-                                                                                      f"lot-{number:02}.png"))
+            one, lot = (open(os.path.join(self.room, it), "rb").read() for it in ("one.png", f"lot-{number:02}.png"))
             self.row(f"file {number}", lot, one)

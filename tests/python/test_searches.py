@@ -1,5 +1,4 @@
-"""Searches of pictures: what ends one early is said, what the sampler read is what is said, and what is found and not
-read is listed with the reason."""
+"""Searches of pictures: what ends one early, what the sampler read, and what is found and not read is said."""
 import copy
 import json
 import math
@@ -7,9 +6,11 @@ import os
 import pickle
 import re
 
-from tests.python.common import PackageCase, ecc
+from tests.python.common import PackageCase, ecc, run, saved
 from tests.python.test_surface import hurt, text
-from tests.support import needs, places
+from tests.sampler.damage import spotted
+from tests.sampler.pictures import pixels_of
+from tests.support import places
 
 import ecc200
 from ecc200 import core
@@ -18,7 +19,6 @@ LONG = 600_000  # milliseconds, which no search here takes
 
 
 def sheet(folder, count, *more):
-    """A sheet of this many labels, and what they say."""
     messages = [f"SN-{number:05}" for number in range(count)]
     name = f"sheet-{count}.png"
     ecc("write --sheet -o", name, *more, given="\n".join(messages), folder=folder)
@@ -32,15 +32,7 @@ def gap(folder, *more):
     return (lefts[1] - lefts[0]) / 0.5 - len(ecc200.write(b"A"))
 
 
-def pixels(rows, scale, dark=30, light=200, quiet=3):
-    """A symbol as rows of luminances."""
-    wide = [bytes(quiet) + bytes(row) + bytes(quiet) for row in rows]
-    wide = [bytes(len(wide[0]))] * quiet + wide + [bytes(len(wide[0]))] * quiet
-    return [[dark if module else light for module in row for _ in range(scale)] for row in wide for _ in range(scale)]
-
-
 def of_rows(folder, name, rows):
-    """A picture of these luminances, as a file."""
     from PIL import Image
     Image.frombytes("L", (len(rows[0]), len(rows)), b"".join(map(bytes, rows))).save(os.path.join(folder, name))
     return name
@@ -54,21 +46,17 @@ def frayed(message, count):
     return rows
 
 
-def in_glare(message):
-    """The luminances of a symbol with a spot in its middle that is as light as can be."""
-    rows = pixels(ecc200.write(message), 5)
-    middle = len(rows) / 2
-    return [[255 if math.hypot(x - middle, y - middle) < 0.2 * len(rows) else level for x, level in enumerate(row)]
-            for y, row in enumerate(rows)]
+def blotted(message, size):
+    """The luminances of a symbol with a dark blot on it, of twelve by twelve modules but for the corners."""
+    return [[0 if math.hypot(x - 37 * 6, y - 12 * 6) < 6 * 6 else level for x, level in enumerate(row)]
+            for y, row in enumerate(pixels_of(ecc200.write(message, size=size), 6, 4, 0, 255))]
 
 
 def beside_one_another(folder, name, symbols):
-    """A picture of several symbols."""
-    parts = [pixels(rows, 8, 0, 255, 6) for rows in symbols]
+    parts = [pixels_of(rows, 8, 6, 0, 255) for rows in symbols]
     return of_rows(folder, name, [[level for part in parts for level in part[y]] for y in range(len(parts[0]))])
 
 
-@needs.library
 class Searches(PackageCase):
     def test_early(self):
         """A search that ends early says so, by a status of its own, a line and JSON; and no other does."""
@@ -84,14 +72,12 @@ class Searches(PackageCase):
             got = self.ecc("read --time", str(LONG), *words, name)
             self.says(case, (got[0], "", got[2]), status, "", parts)
             read = got[1].split()
-            self.holds(f"{case}, what is read", len(set(read)) == len(read) == count and set(read) <= set(messages),
-                       read)
+            self.holds(f"{case}, read", len(set(read)) == len(read) == count and set(read) <= set(messages), read)
             self.holds(f"{case}, lines of errors", got[2].count("\n") == (status > 0), got[2])
             told = self.ecc("read --json --time", str(LONG), *words, name)[1].splitlines()
             told = [json.loads(line) for line in told]
             self.row(f"{case}, complete in JSON", {line["complete"] for line in told}, {status == 0})
-            self.row(f"{case}, a line of its own", ["ended" in line for line in told],
-                     [False] * count + [True] * (status > 0))
+            self.row(f"{case}, its line", ["ended" in line for line in told], [False] * count + [True] * (status > 0))
         for command in ("check", "explain", "normal"):
             got = self.ecc(command, "--most", "2", "--time", str(LONG), name)
             self.holds(f"{command}, some", got[0] == 3 and "the search ended with 2 symbols" in got[2], str(got))
@@ -106,8 +92,7 @@ class Searches(PackageCase):
         noise = Image.effect_noise((3000, 3000), 90)
         noise.save(os.path.join(here, "noise.png"))
         got = self.ecc("read --time 1 noise.png")
-        self.says("nothing within the time", got, 3, "", ["no Data Matrix symbol was found", "after its 1 ms",
-                                                          "--time"])
+        self.says("nothing in time", got, 3, "", ["no Data Matrix symbol was found", "after its 1 ms", "--time"])
         self.row("in one line", got[2].count("\n"), 1)
         told = json.loads(self.ecc("read --json --time 1 noise.png")[1])
         self.row("in JSON", (told["complete"], "refused" in told), (False, True))
@@ -122,8 +107,7 @@ class Searches(PackageCase):
         with Image.open(os.path.join(here, "one.png")) as one:
             one.convert("L").save(os.path.join(here, "pages.tif"), save_all=True, append_images=[noise.copy()])
         got = self.ecc("read --time 200 pages.tif")
-        self.says("a page whose time is over", got, 3, "one\n",
-                  ["pages.tif: page 2: the search ended after its 200 ms"])
+        self.says("a page out of time", got, 3, "one\n", ["pages.tif: page 2: the search ended after its 200 ms"])
         with Image.open(os.path.join(here, "one.png")) as one:
             noise.paste(one.convert("L").resize((600, 600), Image.NEAREST), (100, 100))
         noise.save(os.path.join(here, "beside.png"))
@@ -133,8 +117,7 @@ class Searches(PackageCase):
 
     def test_by_python(self):
         """The lists of decode and find say why the search ended."""
-        self.row("a grid is complete", (ecc200.decode(ecc200.write(b"A")).complete, ecc200.decode([b"\1"]).complete),
-                 (True, True))
+        self.row("a grid", (ecc200.decode(ecc200.write(b"A")).complete, ecc200.decode([b"\1"]).complete), (True, True))
         self.needs_search("searches by Python that end early")
         here = self.made("python")
         path, messages = sheet(here, 70)
@@ -160,8 +143,7 @@ class Searches(PackageCase):
             order[0].save(os.path.join(here, "pages.tif"), save_all=True, append_images=order[1:])
             for call in (ecc200.decode, ecc200.find):
                 got = call(os.path.join(here, "pages.tif"), most=2, milliseconds=LONG)
-                self.row(f"{call.__name__}, the page that has more is {name}", (len(got), got.ended), (2,
-                                                                                                       core.End.ROOM))
+                self.row(f"{call.__name__}, more on the {name} page", (len(got), got.ended), (2, core.End.ROOM))
         texts = [found.text for found in ecc200.decode(path, most=100, milliseconds=LONG)]
         self.row("what is read", sorted(texts), messages)
         self.holds("they are lists", isinstance(ecc200.decode(path, most=1), list))
@@ -179,20 +161,20 @@ class Searches(PackageCase):
             self.row(f"what {count} labels say", read.split(), messages)
 
     def test_handed_on(self):
-        """What the sampler read is what is said, with the border limit and the doubtful modules by which it was
-        read."""
+        """What the sampler read is said, with the border limit and the doubtful modules by which it was read."""
         self.needs_search("readings of pictures")
-        here, message = self.made("handed"), b"M" * 62
-        border = of_rows(here, "border.png", pixels(frayed(message, 16), 6))
-        for name in (border, of_rows(here, "glare.png", in_glare(message))):
+        here, large, spelled = self.made("handed"), b"M" * 62, b"Mitsubadoor-0123456789-ABCDEFGH"
+        for name, rows, message in (("border.png", pixels_of(frayed(large, 16), 6, 3, 30, 200), large),
+                                    ("glare.png", spotted(ecc200.write(large)), large),
+                                    ("blot.png", blotted(spelled, (16, 48)), spelled)):
+            of_rows(here, name, rows)
             found, = ecc200.find(os.path.join(here, name), most=1, milliseconds=20_000)
             self.row(f"found, {name}", found.answer.data, message)
             usual = found.answer.border_faults <= ecc200.usual_limit(*found.answer.size) and not found.doubtful
             self.row(f"not as a grid by itself, {name}", usual, False)
             again = ecc200.read(found.rows, found.border_limit, doubtful=found.doubtful)
             self.row(f"read says the same, {name}", again._replace(corners=found.answer.corners), found.answer)
-            self.row(f"decode, {name}", [got.data for got in ecc200.decode(os.path.join(here, name), most=1)],
-                     [message])
+            self.row(f"decode, {name}", [it.data for it in ecc200.decode(os.path.join(here, name), most=1)], [message])
             words = ("--time", "20000", name)
             self.says(f"read, {name}", self.ecc("read", *words), output=message.decode() + "\n")
             told = json.loads(self.ecc("read --json", *words)[1])
@@ -202,18 +184,21 @@ class Searches(PackageCase):
             self.row(f"in JSON, {name}", got, (found.border_limit, answer.border_faults, list(answer.corrected),
                                                list(answer.erased), doubtful))
             self.says(f"normal, {name}", self.ecc("normal", *words), output=text(ecc200.write(message)))
-            self.row(f"check, {name}", self.ecc("check", *words)[0], 0)
+            checked, counts = self.ecc("check", *words), f"erased: {answer.erased[0]}, check codewords left: "
+            self.holds(f"check, {name}", checked[0] == 0 and
+                       (f"{counts}{answer.left[0]}\n" in checked[1]) == bool(found.doubtful), f"{checked}")
             explained = self.ecc("explain", *words)
             self.holds(f"explain, {name}", explained[0] == 0 and f"It says {message.decode()}" in explained[1]
                        and "not read" not in explained[1], explained)
             self.row(f"compare, {name}", self.ecc("compare --most 1", *words, name)[0], 0)
-        blot = os.path.join(here, "blot.txt")
-        with open(blot, "w", encoding="ascii") as file:
-            file.write(text([bytes(column == 5 for column in range(len(frayed(message, 0)))) for _ in frayed(message,
-                                                                                                             0)]))
-        self.says("with doubtful modules of the caller's", self.ecc("read --time 20000 --doubtful", blot, border),
-                  output=message.decode() + "\n")
-        got = self.ecc("read --border 2 --time 20000", border)
+        self.holds("doubtful modules", (len(found.doubtful), len(found.doubtful[0])) == (16, 48)
+                   and 90 < sum(map(sum, found.doubtful)) < 250, f"{found.doubtful}")
+        self.raises("without them it isn't read", ecc200.Refused, "BLOCK", lambda: ecc200.read(found.rows))
+        side = len(ecc200.write(large))
+        blot = saved(here, "blot.txt", text([bytes(column == 5 for column in range(side))] * side))
+        self.says("with doubtful modules of the caller's", self.ecc("read --time 20000 --doubtful", blot, "border.png"),
+                  output=large.decode() + "\n")
+        got = self.ecc("read --border 2 --time 20000 border.png")
         self.says("another limit is asked for", got, 1, "", ["modules of its border have the wrong colour"])
 
     def test_unread(self):
@@ -223,8 +208,7 @@ class Searches(PackageCase):
         self.row("decode of a grid that isn't read", (ecc200.decode(damaged), [each.code for each in refused]),
                  ([], [ecc200.Code.BLOCK]))
         grids = text(ecc200.write(b"A")) + text(damaged)
-        self.row("of two grids", [isinstance(each, ecc200.Reading) for each in ecc200.decode(grids, unread=True)],
-                 [True, False])
+        self.row("two", [isinstance(it, ecc200.Reading) for it in ecc200.decode(grids, unread=True)], [True, False])
         self.needs_search("symbols that are found and not read")
         here = self.made("unread")
         name = beside_one_another(here, "three.png", [ecc200.write(b"123456"), damaged, ecc200.write(b"A")])
@@ -252,6 +236,53 @@ class Searches(PackageCase):
         self.row("decode says why nothing is read",
                  [each.code for each in ecc200.decode(os.path.join(here, alone), unread=True)], [ecc200.Code.BLOCK])
         self.row("and is empty where that isn't asked", ecc200.decode(os.path.join(here, alone)), [])
+
+    def test_other_codes(self):
+        """Where no symbol is read, another code that is there is named, and what its parts look like isn't told."""
+        Image = self.needs_search("pictures of other codes").Image
+        if not self.has("zint", "pictures of other codes"):
+            return
+        here = self.made("others")
+        lost = os.path.join(here, beside_one_another(here, "lost.png", [hurt(4)]))
+        said = ["what looks most like a symbol isn't read", "Other codes, as QR codes, aren't read"]
+        self.says("a symbol that isn't read", self.ecc("read lost.png"), 1, "", said)
+        self.row("none beside it", ecc200.decode(lost).other, None)
+        for number, name in ((58, "a QR code"), (92, "an Aztec code"), (55, "a PDF417 code"), (20, "a bar code")):
+            run(["zint", "-o", "code.png", "-b", str(number), "--scale", "2", "-d", "ANOTHER CODE"], cwd=here)
+            got = self.ecc("read code.png")
+            self.holds(name, got[0] in (1, 3) and not got[1] and "no Data Matrix symbol was found in its" in got[2]
+                       and f", but {name}, which isn't one. Take it from nearer" in got[2], str(got))
+            path = os.path.join(here, "code.png")
+            self.row(f"{name}, by Python", [call(path).other for call in (ecc200.decode, ecc200.find)], [name, name])
+            with Image.open(lost) as one, Image.open(path) as other:
+                both = Image.new("L", (one.width + other.width + 40, max(one.height, other.height) + 20), 255)
+                both.paste(one, (0, 10))
+                both.paste(other.convert("L"), (one.width + 20, 10))
+            both.save(os.path.join(here, "both.png"))
+            self.says(f"{name} beside what isn't read", self.ecc("read both.png"), 1, "",
+                      [said[0], f"Beside it is {name}, which isn't one"])
+        run(["zint", "-o", "large.png", "-b", "58", "--vers", "14", "--scale", "5", "-d", "A LARGE CODE"], cwd=here)
+        with Image.open(os.path.join(here, "large.png")) as large, Image.open(lost) as one:
+            around = large.convert("L")
+            around.paste(one, tuple((whole - part) // 2 for whole, part in zip(around.size, one.size)))
+        around.save(os.path.join(here, "around.png"))
+        got = self.ecc("read around.png")
+        self.holds("what isn't read within another code", "no Data Matrix symbol was found" in got[2]
+                   and "but a QR code, which isn't one" in got[2], str(got))
+
+    def test_advice(self):
+        """Who has a camera is told first what to do with it, and then of options."""
+        self.needs_search("what is advised of pictures")
+        here = self.made("advice")
+        of_rows(here, "light.png", pixels_of([bytes(14)] * 14, 5))
+        lost = beside_one_another(here, "lost.png", [hurt(4)])
+        unsure = beside_one_another(here, "unsure.png", [hurt(1)])
+        saved(here, "frayed.txt", text(frayed(b"M" * 62, 16)))
+        for words, option in ((f"read {lost}", "--doubtful"), ("read light.png", "--time"),
+                              ("read frayed.txt", "--border"), (f"read --margin 2 {unsure}", None)):
+            said = self.ecc(words)[2]
+            first = said.find("from nearer, in even light and flat")
+            self.holds(words, 0 < first < (said.find(option) if option else len(said)), said)
 
     def test_unsure(self):
         """What leaves too few corrections isn't read, and says what it may be."""

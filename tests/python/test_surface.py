@@ -4,7 +4,7 @@ import os
 
 from tests import corpus
 from tests.python.common import SAMPLER, VERSION, WORDS, PackageCase, ecc, environment, marks, run
-from tests.support import needs, places
+from tests.support import places
 
 import ecc200
 from ecc200 import advice
@@ -30,12 +30,13 @@ def edifact():
     raise LookupError("no mark has EDIFACT")
 
 
-def hurt(codewords):
-    """A symbol of side 10 with this many wrong codewords."""
-    rows = [bytearray(row) for row in ecc200.write(b"123456")]
-    places = ecc200.places(10)
+def hurt(codewords, rows=None):
+    """A symbol, of side 10 if there is none, with this many wrong codewords."""
+    rows = [bytearray(row) for row in rows or ecc200.write(b"123456")]
+    places = ecc200.places(len(rows), len(rows[0]))
     for word in range(codewords):
-        row, column = next((y, x) for y in range(10) for x in range(10) if places[y][x][:2] == (ecc200.Kind.BIT, word))
+        row, column = next((y, x) for y, line in enumerate(places) for x, place in enumerate(line)
+                           if place[:2] == (ecc200.Kind.BIT, word))
         rows[row][column] ^= 1
     return rows
 
@@ -56,7 +57,6 @@ def otherwise(rows):
             ("a margin", [margin, *(b"\0" + row + b"\0\0" for row in rows), margin], "has a light margin")]
 
 
-@needs.library
 class Surface(PackageCase):
     def test_usage(self):
         status, output, _ = ecc("--help")
@@ -112,12 +112,11 @@ class Surface(PackageCase):
                   output=text(ecc200.write(b"\x80" * 3, profile=1)))
         squares = corpus.marks("squares")
         status, output, _ = ecc("read --escapes --usual", given=corpus.grids(squares))
-        self.row("marks of others, --usual", output.splitlines(),
-                 ["\\no" if "usual" in mark.more else mark.said for mark in squares])
+        self.row("--usual", output.splitlines(), ["\\no" if "usual" in mark.more else mark.said for mark in squares])
         self.says("a file that isn't there", ecc("read none.txt"), status=2, errors=["none.txt: No such file"])
 
     def test_in_words(self):
-        grid = edifact()
+        grid, oblong = edifact(), ecc200.write(b"Rectangle1", size=(8, 32))
         self.says("EDIFACT", ecc("read", given=grid)[:2] + ("",))
         self.says("EDIFACT, --usual", ecc("read --usual", given=grid), 1, "\\no\n", ["EDIFACT", "leave out --usual"])
         good = text(ecc200.write(b"123456"))
@@ -134,16 +133,26 @@ class Surface(PackageCase):
              ["10 of the 36", "--border 10 accepts them, though some block has no correction left"]),
             ("damage", text(hurt(5)),
              ["block 1 of its 1", "2 wrong codewords", "scan it again, from nearer, in even light and flat"]),
+            ("no size of a rectangle", text([bytes(32)] * 10),
+             ["no symbol has 10 rows of 32 modules", "'ecc200 sizes'"]),
+            ("a rectangle that lies", text([bytes(8)] * 32), ["no symbol has 32 rows of 8 modules"]),
+            ("a wrong border of a rectangle", text([*oblong[:-1], bytes(32)]),
+             ["32 of the 88", "of its border", "--border auto accepts them"]),
+            ("damage of a rectangle", text(hurt(8, oblong)),
+             ["block 1 of its 1 has more than 5 wrong codewords", "--doubtful"]),
+            ("a ragged rectangle", text([*oblong[:-1], oblong[-1][:-1]]),
+             ["from 31 to 32 characters; a grid has as many in each"]),
         ]:
             self.says(name, ecc("read", given=given), 1, "\\no\n", ["symbol 1: ", *parts])
+        told = json.loads(ecc("read --json", given=text([bytes(32)] * 10))[1])
+        self.row("no size in JSON", (told["code"], told["value"], told["place"]), ("SIZE", 10, 32))
         lost = ecc("read", given=text([bytes(10)] * 10))
         self.holds("no other border would help", lost[0] == 1 and "27 of the 36" in lost[2] and "--border" not in
                    lost[2], str(lost))
         for word, part in [(241, "an ECI"), (233, "structured append"), (234, "reader programming"), (236, "macro 05"),
                            (237, "macro 06"), (240, "EDIFACT")]:
             said = advice.in_words(ecc200.Refused(8, word, 3), [], ecc200.Extent.USUAL)
-            self.holds(f"codeword {word}, --usual", part in said and "codeword 3" in said and "leave out --usual" in
-                       said)
+            self.holds(f"word {word}, --usual", part in said and "codeword 3" in said and "leave out --usual" in said)
         for word in (233, 234, 236, 237):
             said = advice.in_words(ecc200.Refused(8, word, 3), [])
             self.holds(f"codeword {word}", "codeword 3 begins" in said and "only stands in front" in said)
@@ -170,20 +179,22 @@ class Surface(PackageCase):
 
     def test_otherwise(self):
         """Grids that stand otherwise are named, and read with --any-way."""
-        for message in (b"123456", b"Mitsubadoor" * 9):
-            rows = ecc200.write(message)
-            side = len(rows)
+        for message, more in ((b"123456", {}), (b"Mitsubadoor" * 9, {}), (b"Rect", {"size": (8, 18)}),
+                              *((b"Mitsubadoor", {"size": size}) for size in ((12, 36), (26, 64), (144, 144)))):
+            rows = ecc200.write(message, **more)
+            wide, sides = bytes(2 * len(rows[0]) + 2), (len(rows), len(rows[0]))
             for name, grid, part in [
                 *otherwise(rows),
                 ("wide", [bytes(module for module in row for _ in "abc") for row in rows], "has 3 by 1 characters"),
+                ("high", [row for row in rows for _ in "abc"], "has 1 by 3 characters"),
+                ("mirrored and turned", turned([row[::-1] for row in rows]), "is mirrored and is turned"),
                 ("large, with a margin, mirrored",
-                 [bytes(2 * side + 2)] + [b"\0" + bytes(module for module in row[::-1] for _ in "ab") + b"\0"
-                                          for row in rows for _ in "ab"],
+                 [wide] + [b"\0" + bytes(module for module in row[::-1] for _ in "ab") + b"\0" for row in rows
+                           for _ in "ab"],
                  "has 2 by 2 characters or pixels for each module and has a light margin and is mirrored"),
             ]:
-                self.says(f"{name}, {side}", ecc("read", given=text(grid)), 1, "\\no\n", [part, "--any-way"])
-                self.says(f"{name}, {side}, --any-way", ecc("read --any-way", given=text(grid)),
-                          output=message.decode() + "\n")
+                self.says(f"{name}, {sides}", ecc("read", given=text(grid)), 1, "\\no\n", [part, "--any-way"])
+                self.says(f"{name}, {sides}", ecc("read --any-way", given=text(grid)), output=message.decode() + "\n")
         self.says("nothing helps", ecc("read --any-way", given=text([bytes(10)] * 10)), 1, "\\no\n", ["27 of the 36"])
 
     def test_writing(self):
@@ -192,20 +203,15 @@ class Surface(PackageCase):
                   output=smallest(b"123456") + smallest(b"0") + smallest(b"A"))
         self.says("write GS1", ecc("write --gs1", "(01)09521234543213(10)A(21)B"),
                   output=smallest(b"010952123454321310A\x1d21B", gs1=True))
-        self.says("write faulty GS1", ecc("write --gs1", "(01)09521234543214"), 1, "",
-                  ["message 1: (01) GTIN: its check digit"])
+        self.says("faulty", ecc("write --gs1", "(01)09521234543214"), 1, "", ["message 1: (01) GTIN: its check digit"])
         self.says("write unknown GS1", ecc("write --gs1 --unknown", "(4327)A"), output=smallest(b"4327A", gs1=True))
         self.says("write --hex", ecc("write --hex 00ff"), output=smallest(b"\0\xff"))
         self.says("write wrong --hex", ecc("write --hex 0f0"), 1, "", ["hexadecimal"])
         self.says("write --escapes", ecc("write --escapes", "\\FA\\x80\\\\"), output=smallest([256, 65, 128, 92]))
         self.says("write wrong --escapes", ecc("write --escapes", "\\q"), 1, "", ["'q'"])
-        self.says("write --shorter", ecc("write --shorter --hex", "80" * 3),
-                  output=text(ecc200.write(b"\x80" * 3, profile=1)))
-        self.says("write Latin-1", ecc("write --charset iso-8859-1", "caf\u00e9"), output=smallest(b"caf\xe9"))
-        self.says("write UTF-8", ecc("write --charset utf-8", "caf\u00e9"), output=smallest("caf\u00e9".encode()))
+        self.says("shorter", ecc("write --shorter --hex", "80" * 3), output=text(ecc200.write(b"\x80" * 3, profile=1)))
         self.says("write bytes", ecc("write --bytes -", given=b"\xff\n"), output=smallest(b"\xff\n"))
-        self.says("bytes and a message", ecc("write --bytes", os.devnull, "A"), 2, "",
-                  ["--bytes", "'A' would be another"])
+        self.says("both", ecc("write --bytes", os.devnull, "A"), 2, "", ["--bytes", "'A' would be another"])
         self.says("one is refused", ecc("write --hex 41 x 42"), 1, smallest(b"A") + smallest(b"B"), ["message 2"])
         for name, words, part in [("no width", ("--module", "x"), "--module x"),
                                   ("half a dot", ("--module", "1.5"), "whole number"),
@@ -227,16 +233,19 @@ class Surface(PackageCase):
             if pillow:
                 self.row(f"its size, {words}", pillow.Image.open(path).size, (side, side))
                 self.says(f"read label.png {' '.join(words)}", ecc("read", path), output="123456\n")
-        for scale in (1, 2, 7):
-            path = os.path.join(self.room, f"small{scale}.png")
-            self.says(f"{scale} dots a module", ecc("write Mitsubadoor -o", path, "--module", str(scale),
-                                                    "--quiet-zone", str(scale % 3)),
-                      output="")
+        without = {**environment(), "ECC200_SAMPLE_LIBRARY": os.path.join(self.room, "none.so")}
+        for scale, size in ((1, None), (2, None), (7, None), (1, (8, 18)), (2, (8, 120)), (5, (26, 48)),
+                            (3, (144, 144))):
+            path, name = os.path.join(self.room, f"small{scale}.png"), f"{scale} dots a module, {size}"
+            words, message = (["--size", "{}x{}".format(*size)], "Rect") if size else ([], "Mitsubadoor")
+            self.says(name, ecc("write", message, "-o", path, "--module", str(scale), "--quiet-zone", str(scale % 3),
+                                *words), output="")
             if pillow:
-                self.says(f"{scale} dots a module are read", ecc("read", path), output="Mitsubadoor\n")
-                without = run([*WORDS, "read", path],
-                              env={**environment(), "ECC200_SAMPLE_LIBRARY": os.path.join(self.room, "none.so")})
-                self.says(f"{scale} dots a module are read without the sampler", without, output="Mitsubadoor\n")
+                self.says(f"{name}, read", ecc("read", path), output=f"{message}\n")
+                self.says(f"{name}, read without it", run([*WORDS, "read", path], env=without), output=f"{message}\n")
+            if pillow and size:
+                told = json.loads(run([*WORDS, "read", "--json", path], env=without)[1])
+                self.row(f"{name}, its size", (told["rows"], told["columns"]), size)
         if pillow:
             path = os.path.join(self.room, "blank.png")
             pillow.Image.new("L", (90, 90), 255).save(path)
@@ -245,10 +254,9 @@ class Surface(PackageCase):
                        else "nothing in the picture is dark"])
             picture = pillow.Image.open(os.path.join(self.room, "small7.png")).convert("L")
             picture.resize((picture.width * 3 // 2, picture.height * 3 // 2)).save(path)
-            without = run([*WORDS, "read", path],
-                          env={**environment(), "ECC200_SAMPLE_LIBRARY": os.path.join(self.room, "none.so")})
+            got = run([*WORDS, "read", path], env=without)
             self.holds("pixels that aren't whole modules, without the sampler",
-                       without[0] == 1 and "ecc200_sample isn't installed" in without[2], str(without))
+                       got[0] == 1 and "ecc200_sample isn't installed" in got[2], str(got))
         for kind, start in (("svg", b"<svg "), ("pdf", b"%PDF-"), ("txt", b"1010")):
             path = os.path.join(self.room, f"label.{kind}")
             self.says(f"-o label.{kind}", ecc("write 123456 -o", path), output="")
@@ -260,18 +268,13 @@ class Surface(PackageCase):
             self.says("numbered files are read", ecc("read", *names),
                       output="".join(map("{}:{}".format, names, lines.splitlines(True))))
         self.says("a sheet", ecc("write --sheet -o", os.path.join(self.room, "sheet.pdf"), given=lines), output="")
-        self.says("a sheet of labels", ecc("write --sheet 100x50 -o", os.path.join(self.room, "sheet.png"),
-                                           given=lines), output="")
+        self.says("a sheet", ecc("write --sheet 100x50 -o sheet.png", given=lines, folder=self.room), output="")
         self.row("its name", sorted(name for name in os.listdir(self.room) if name.startswith("sheet")),
                  ["sheet.pdf", "sheet.png"])
-        if pillow and os.path.isfile(SAMPLER):
-            status, output, _ = ecc("read --all --time 20000", os.path.join(self.room, "sheet.png"))
-            self.row("a sheet is read", (status, sorted(output.splitlines())), (0, sorted(lines.splitlines())))
         if pillow and self.has("zint", "a mark of zint from a PNG"):
             path = os.path.join(self.room, "zint.png")
             run(["zint", "-b", "71", "--square", "--gs1", "-d", "[01]09521234543213[17]251231[10]ABC123", "-o", path])
-            self.says("a GS1 mark of zint from a PNG", ecc("read", path),
-                      output="(01)09521234543213(17)251231(10)ABC123\n")
+            self.says("zint's GS1 from a PNG", ecc("read", path), output="(01)09521234543213(17)251231(10)ABC123\n")
             self.says("normal of it, drawn", ecc("normal", path, "-o", os.path.join(self.room, "again.png")), output="")
             self.says("the two say the same", ecc("compare", path, os.path.join(self.room, "again.png")), errors=None)
         if pillow and self.has("zint", "what zint writes and isn't read with --usual"):

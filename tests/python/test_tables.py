@@ -6,7 +6,7 @@ import os
 from tests.python.common import WORDS, PackageCase, ecc, environment, run
 from tests.python.test_batches import saved, symbols
 from tests.python.test_surface import hurt, smallest, text
-from tests.support import needs, work
+from tests.support import work
 
 import ecc200
 from ecc200 import gs1, tables
@@ -30,7 +30,6 @@ def parsed(output):
     return list(csv.reader(io.StringIO(output, newline=""), strict=True))
 
 
-@needs.library
 class Tables(PackageCase):
     def test_by_rows(self):
         """Rows are labels by their headings: each wrong one is named, and the others are written."""
@@ -45,8 +44,7 @@ class Tables(PackageCase):
         got = self.ecc("write --csv lots.csv -o b.svg --column", "file name=-")
         self.row("files by number", sorted(name for name in os.listdir(here) if name.startswith("b")),
                  ["b-1-1.svg", "b-1-2.svg", "b-3.svg"])
-        self.says("names without a place for them", self.ecc("write --csv lots.csv -o b.svg"), 2,
-                  "", ["it names files", "{}"])
+        self.says("names without a place", self.ecc("write --csv lots.csv -o b.svg"), 2, "", ["it names files", "{}"])
         grids = self.ecc("write --csv lots.csv --column text=- --column", "file name=-")[1]
         first = smallest(b"010952123454321310ABC\x1d1725123121" + b"1", gs1=True)
         other = text(ecc200.write(b"010952123454321310Y\x1d213", True, size=(24, 24), form=ecc200.Form.SMALLEST))
@@ -112,8 +110,7 @@ class Tables(PackageCase):
         given = lines + formula + marked + text(hurt(5)) + symbols(b"\x80\xff\n") + part
         saved(here, "=a.txt", given)
         status, output, errors = self.ecc("read --csv --elements 01,Serial =a.txt none.txt")
-        self.holds("its rows end with CR and LF", output.endswith("\r\n") and output.isascii()
-                   and "\x1b" not in output, output)
+        self.holds("rows end with CRLF", output.endswith("\r\n") and output.isascii() and "\x1b" not in output, output)
         head, *rows = parsed(output)
         self.row("headings", head, ["picture", "number", "message", "kind", "01", "Serial", "symbology", "size",
                                     "corrected", "border", "corners", "not read"])

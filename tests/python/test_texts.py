@@ -23,8 +23,7 @@ REGISTER = {0: "cp437", 1: "latin-1", 2: "437", 3: "l1", 4: "latin2", 5: "latin3
             16: "latin8", 17: "latin9", 18: "latin10", 20: "sjis", 21: "cp1250", 22: "cp1251", 23: "cp1252",
             24: "cp1256", 25: "utf-16-be", 26: "u8", 27: "ascii", 28: "big5-tw", 29: "euc-cn", 30: "ks_x-1001",
             31: "cp936", 32: "gb18030-2000", 33: "utf-16-le", 34: "utf-32-be", 35: "utf-32-le", 170: "646"}
-# Those that zxing-cpp 1.4.0 knows by their numbers, and texts for which its tables of some have other letters, as they
-# have for all scripts but Chinese in Big5.
+# Those that zxing-cpp 1.4.0 knows by their numbers, and texts for which its tables of some have other letters.
 OF_ZXING = {number for number in REGISTER if number <= 30 or number == 170}
 BIG_5 = 28
 UNLIKE = {"Prix : 12,50 €": {9, 30}, "价格 ¥12.50": {BIG_5}, "뷁똠방각하": {30}}
@@ -124,7 +123,6 @@ def some_elements(chance):
     return [gs1.Element(chance.choice(["10", "21", "240", "90", "91", "400"]), value) for value in values]
 
 
-@needs.library
 class Texts(PackageCase):
     def test_written(self):
         """Which bytes and marks a text becomes, and that it is written as these."""
@@ -148,14 +146,12 @@ class Texts(PackageCase):
         self.row("marks by an iterator", ecc200.read(ecc200.write("\u20ac", marks=iter([(3, 7)]))).marks, ((3, 7),))
 
     def test_unmarked(self):
-        """Which bytes a text becomes for readers of the usual extent."""
         for text, charset, data in UNMARKED:
             got = outcome(lambda: ecc200.read(ecc200.encode(text, charset=charset, extent=Extent.USUAL), None,
                                               Extent.USUAL).data)
             self.row(f"{text!r} in {charset}", got, data)
 
     def test_read(self):
-        """Which text and charset items and marks are."""
         for name, charset, *spelled in corpus.rows("charsets"):
             items, marks, _ = corpus.content_of(name)
             text = corpus.characters(spelled[0]) if spelled else None
@@ -172,7 +168,6 @@ class Texts(PackageCase):
         self.raises("a charset that isn't there", LookupError, "none", lambda: charsets.text_of(b"A", [], "none"))
 
     def test_register(self):
-        """The charsets of the register, and their numbers."""
         for number, name in REGISTER.items():
             text = "A" * 4
             told = charsets.text_of(text.encode(name), [(0, number)])
@@ -185,8 +180,7 @@ class Texts(PackageCase):
             self.row(f"the mark {number}", charsets.text_of(b"A", [(0, number)]), wanted)
         for name in ("koi8-r", "cp1253", "utf-16", "utf-8-sig", "cp932"):
             self.row(f"the number of {name}", charsets.assignment(name), None)
-        self.raises("the number of a charset that isn't there", LookupError, "none", lambda:
-                    charsets.assignment("none"))
+        self.raises("the number of no charset", LookupError, "none", lambda: charsets.assignment("none"))
 
     def test_scripts(self):
         """Each text of ten scripts is read as it was written, in every charset that has it, by zxing-cpp too."""
@@ -225,14 +219,12 @@ class Texts(PackageCase):
             self.row(f"ECI {number}, {text[-9:]!r}", got, text)
 
     def test_in_charsets(self):
-        """A text is in the charset whose symbol is smallest as it is asked for, of equal ones in UTF-8; none is larger
-        than zint's."""
+        """A text is in the charset whose symbol is smallest, of equal ones in UTF-8; none is larger than zint's."""
         beyond = [text for _, text in corpus.texts() if any(letter > "\u00ff" for letter in text)]
         for text, given in itertools.product(beyond, ASKED):
             ways = [number for number in (26, *sorted(core._ALIKE)) if number == 26 or
                     all(core._has_alike(letter, number) for letter in text)]
-            areas = [area(text.encode(charsets.charset_of(number)), marks=[("gs1" in given, number)], **given)
-                     for number in ways]
+            areas = [area(text.encode(charsets.charset_of(it)), marks=[("gs1" in given, it)], **given) for it in ways]
             if min(areas) == math.inf:
                 self.row(f"{text!r}, {given}", area(text, **given), math.inf)
                 continue
@@ -270,7 +262,6 @@ class Texts(PackageCase):
                 self.row(f"is it marked, {text!r}", bool(ecc200.read(symbol).marks), guess != text)
 
     def test_pictured(self):
-        """Texts in pictures."""
         self.needs_search("texts in pictures")
         path = os.path.join(self.room, "text.png")
         for script, text in dict(corpus.texts()).items():
@@ -278,21 +269,18 @@ class Texts(PackageCase):
             found, written = ecc200.find(path)[0].answer, ecc200.read(ecc200.encode(text))
             self.row(f"{script} in a picture", (found.text, found.charset, found.marks, found.head),
                      (text, written.charset, written.marks, None))
-            self.row(f"{script} in a picture that is decoded", [reading.text for reading in ecc200.decode(path)],
-                     [text])
+            self.row(f"{script} in one that is decoded", [reading.text for reading in ecc200.decode(path)], [text])
 
     def test_others(self):
         """What other encoders print is read as it was meant."""
         letters = corpus.marks("contents")
         names = [name for name, *_ in printed(letters)]
-        self.row("letters of others", (len(names), {name.split()[0] for name in names}), (56, {"zint", "bwipp",
-                                                                                               "zxing"}))
+        self.row("letters", (len(names), {name.split()[0] for name in names}), (56, {"zint", "bwipp", "zxing"}))
         for name, reading, wanted in printed(letters):
             self.row(name, (reading.marks, reading.head, reading.symbology, reading.text), wanted)
             smallest = ecc200.encode(reading.items, marks=reading.marks, head=reading.head)
             again = ecc200.read(smallest)
-            self.row(f"written anew, {name}", (again.items, again.marks, again.head),
-                     (reading.items, reading.marks, reading.head))
+            self.row(name, (again.items, again.marks, again.head), (reading.items, reading.marks, reading.head))
             self.holds(f"no smaller than that, {name}", smallest.side <= reading.rows, f"{smallest.side}")
 
     def test_made_anew(self):
@@ -358,7 +346,6 @@ class Texts(PackageCase):
                                          (2, 1, 1): "010952123454321310ABC42"})
 
     def test_smallest(self):
-        """`encode` writes the smallest symbol, unless a profile or a form is named."""
         capitals, signs = b"ABCDEFGHIJKLMNOPQRSTUVWXY", b"-./-./-./-./-./-./-."
         for given, side in (({}, 18), ({"form": Form.SMALLEST}, 18), ({"form": Form.ASCII}, 22),
                             ({"profile": Profile.ASCII}, 22), ({"profile": Profile.SHORTER}, 22),
@@ -375,8 +362,7 @@ class Texts(PackageCase):
                             ({"size": (16, 36)}, (16, 36))):
             self.row(f"letters, {given}", ecc200.encode(capitals, **given).size, size)
         reading = ecc200.read(ecc200.encode(b"AB", marks=[(1, 26)], head=(2, 5, 1, 254)))
-        self.row("marks and a head", (reading.items, reading.marks, reading.head), ((65, 66), ((1, 26),), (2, 5, 1,
-                                                                                                           254)))
+        self.row("both", (reading.items, reading.marks, reading.head), ((65, 66), ((1, 26),), (2, 5, 1, 254)))
         self.row("programming", ecc200.read(ecc200.encode(b"AB", head="programming")).head, "programming")
         for more, code in (({"extent": Extent.USUAL, "marks": [(0, 26)]}, Code.TOO_LONG), ({"form": 3}, Code.PROFILE),
                            ({"profile": 2}, Code.PROFILE), ({"extent": 2}, Code.EXTENT),
@@ -384,8 +370,7 @@ class Texts(PackageCase):
             self.raises(f"refused: {more}", ecc200.Refused, code.name, lambda more=more: ecc200.encode(b"AB", **more))
 
     def test_elements(self):
-        """GS1 symbols begin with FNC1, and not with a run that says it, in each shape and extent, also behind a
-        head."""
+        """GS1 symbols begin with FNC1, not with a run that says it, in each shape and extent, also behind a head."""
         chance, smaller = random.Random(7), 0
         for _ in range(300):
             data = gs1.message(some_elements(chance))
@@ -399,10 +384,9 @@ class Texts(PackageCase):
             self.row(f"{data}, behind a head", (reading.symbology, reading.data, reading.marks, reading.head),
                      ("]d5", data, ((1, 26),), (1, 2, 3, 4)))
         self.holds("many are smaller than in ASCII", smaller > 600, f"{smaller} of 2400")
-        for rest in itertools.product((49, 65, 97, 31, 225, 256), repeat=4):
-            for length in range(1, 5):
-                items = [256, *rest[:length]]
-                self.row(f"{items}", ecc200.read(ecc200.encode(items)).symbology, "]d2")
+        for rest, length in itertools.product(itertools.product((49, 65, 97, 31, 225, 256), repeat=4), range(1, 5)):
+            items = [256, *rest[:length]]
+            self.row(f"{items}", ecc200.read(ecc200.encode(items)).symbology, "]d2")
 
     def is_there(self, path, what):
         """Whether a file of another package is installed; if it isn't, what it is needed for is left out."""

@@ -1,5 +1,4 @@
-"""What the command says of what it doesn't read or write, so that nothing is passed over, and nothing that is read is
-taken for something else, or for a terminal's controls."""
+"""What isn't read or written is said, and nothing read is taken for something else, or controls a terminal."""
 import json
 import os
 import signal
@@ -8,7 +7,6 @@ import subprocess
 from tests.python.common import PYTHON, WORDS, PackageCase, ecc, environment, run
 from tests.python.test_batches import made, saved, symbols
 from tests.python.test_surface import hurt, text
-from tests.support import needs
 
 import ecc200
 from ecc200 import gs1
@@ -38,7 +36,6 @@ ecc200.files.replace("label.png", b"whole")
 """
 
 
-@needs.library
 class Told(PackageCase):
     def test_escapes(self):
         """Nothing that is scanned or named controls the terminal or begins a line."""
@@ -58,8 +55,7 @@ class Told(PackageCase):
                       ("check", "-H", HOSTILE), ("normal", b"q\x1bc"), ("join", HOSTILE), ("compare", HOSTILE, HOSTILE),
                       ("read", "--csv", HOSTILE, b"q\x1bc"), ("read", "--charset", b"\x1b")):
             got = raw(*words, folder=here)
-            self.holds(f"the words {words}", b"\x1b" not in got[1] + got[2] and b"\xc2\x9b" not in got[1] + got[2],
-                       str(got))
+            self.holds(f"{words}", b"\x1b" not in got[1] + got[2] and b"\xc2\x9b" not in got[1] + got[2], str(got))
         for items in (b"31\x1bc", b"9\x1b]0;", b"31\xc2\x9bc", b"01\n", b"8100\x1b", b"\x1bc"):
             for words in ((), ("--unknown", ), ("--json", ), ("--escapes", ), ("--charset", "latin-1")):
                 for command in ("read", "compare")[:1 + (not words)]:
@@ -85,8 +81,7 @@ class Told(PackageCase):
             first, *rest = errors.split("\n", 1)
             self.holds(f"the words {words}", (status, output) == (2, "") and errors.startswith("ecc200: ")
                        and part.rstrip() in first and rest[0].startswith("usage: ecc200"), errors)
-            self.holds(f"usage of the command {words}", len(words) < 2 or f"usage: ecc200 {words[0]} " in errors,
-                       errors)
+            self.holds(f"usage of {words}", len(words) < 2 or f"usage: ecc200 {words[0]} " in errors, errors)
         self.says("a message that begins with -", ecc("write -- -5x"), output=symbols(b"-5x"))
 
     def test_alike(self):
@@ -113,7 +108,6 @@ class Told(PackageCase):
                                                                     "(10)")], [True, True, True, False, False])
 
     def test_raw_bytes(self):
-        """Any bytes come back as they went."""
         here = self.made("raw")
         for number, data in enumerate((b"C:\\new", b"a\r\nb\n\n", b"\xef\xbb\xbf", b"", b"\xff\0\x80\x1d\\F",
                                        bytes(range(256)), "\u20ac\n".encode())):
@@ -124,10 +118,8 @@ class Told(PackageCase):
                 self.row(f"bytes {number}", (done.returncode, done.stdout, done.stderr), (0, data, b""))
                 grid = ecc("write --raw", given=done.stdout)[1]
         self.says("words", ecc("write --raw", "\u20ac\n", "A\n"), output=symbols("\u20ac\n".encode(), b"A\n"))
-        self.row("what write and read make of a backslash", ecc("read --raw", given=ecc("write", "C:\\new")[1])[1],
-                 "C:\\new")
-        self.says("too many", ecc("write --raw", given=b"\xff" * 4000), 1, "",
-                  ["standard input: the message is longer"])
+        self.row("write and read of a backslash", ecc("read --raw", given=ecc("write", "C:\\new")[1])[1], "C:\\new")
+        self.says("many", ecc("write --raw", given=b"\xff" * 4000), 1, "", ["standard input: the message is longer"])
         self.says("what isn't read", ecc("read --raw -H", given=text(hurt(5)) + symbols(b"A")), 1, "A", ["symbol 1"])
         for part, message in enumerate(("a\n", "b"), 1):
             saved(here, f"{part}.txt", text(ecc200.write(message.encode(), head=(part, 2, 1, 1))))
@@ -200,8 +192,7 @@ class Told(PackageCase):
         for name in ("b-2.png", "b-4.png", "one.svg", "all.txt", "sheet.pdf", "keep.txt"):
             saved(here, name, "from before")
         got = self.ecc("write --hex -o b.png", given="41\nx\n42\n")
-        self.says("a line of many", got, 1, "", ["line 2: ",
-                                                 "ecc200: b-2.png stood there from before, and is removed\n"])
+        self.says("line 2 of it", got, 1, "", ["line 2: ", "ecc200: b-2.png stood there from before, and is removed\n"])
         for words in (("-o", "one.svg"), ("-o", "all.txt"), ("--sheet", "-o", "sheet.pdf")):
             self.says(f"all of them, {words}", self.ecc("write --hex", *words, "x"), 1, "", ["stood there"])
         self.ecc("write --hex -o keep.txt x 41")

@@ -1,13 +1,11 @@
 """What is wanted is said where something else is given, in words of the user's; and what can be taken is."""
-import json
 import os
 
 from tests.python.common import PackageCase, ecc
 from tests.python.test_batches import saved, shell
-from tests.support import needs
 
 import ecc200
-from ecc200 import core, pictures
+from ecc200 import pictures
 
 
 class Index:
@@ -20,7 +18,6 @@ class Index:
         return self.number
 
 
-@needs.library
 class Wanted(PackageCase):
     def test_by_python(self):
         """TypeErrors name what is wanted and what was given."""
@@ -28,6 +25,8 @@ class Wanted(PackageCase):
         for size in (8, "8x32", (8, ), (8, "32"), 8.0):
             self.raises(f"size={size!r}", TypeError, f"as (8, 32), unlike {size!r}",
                         lambda size=size: ecc200.encode(b"A", size=size))
+        self.raises("a size and a shape", TypeError, "not both",
+                    lambda: ecc200.write(b"A", size=(8, 18), shape=ecc200.Shape.RECTANGLE))
         for name, call in {"shape": lambda: ecc200.encode(b"A", shape="rectangle"),
                            "write, shape": lambda: ecc200.write(b"A", shape="rectangle")}.items():
             self.raises(name, TypeError, "one of Shape.SQUARE, Shape.RECTANGLE, Shape.EXTENDED, Shape.ANY is wanted, "
@@ -37,16 +36,14 @@ class Wanted(PackageCase):
         self.raises("extent", TypeError, "Extent.USUAL is wanted, unlike 'all'",
                     lambda: ecc200.read(rows, extent="all"))
         for name, call in {"decode": ecc200.decode, "find": ecc200.find}.items():
-            self.raises(f"{name}(None)", TypeError, "unlike None, which OpenCV's imread gives",
-                        lambda call=call: call(None))
+            self.raises(name, TypeError, "unlike None, which OpenCV's imread gives", lambda call=call: call(None))
         self.raises("decode(7)", TypeError, "a grid is rows of modules", lambda: ecc200.decode(7))
         self.raises("read(None)", TypeError,
                     "a grid is rows of modules, as a list, a text, an array or a picture, unlike " "None", lambda:
                     ecc200.read(None))
         self.raises("read([7])", TypeError, "a row of modules is bytes, text, or a list of numbers, unlike 7",
                     lambda: ecc200.read([7]))
-        self.row("a size of numpy's numbers", ecc200.write(b"A", size=(Index(8), Index(32))),
-                 ecc200.write(b"A", size=(8, 32)))
+        self.row("numpy's numbers", ecc200.write(b"A", size=(Index(8), Index(32))), ecc200.write(b"A", size=(8, 32)))
 
     def test_rows_of_numbers(self):
         """numpy makes numbers of the rows of symbols, all of them."""
@@ -102,11 +99,9 @@ class Wanted(PackageCase):
         dark = numpy.eye(12, dtype=numpy.int32)
         self.row("integers up to 1 are dark", max(ecc200.luminance(dark)[0]), 1)
         for kind in (numpy.int8, numpy.int64, numpy.uint32, ">i8"):
-            self.row(f"numbers that Pillow doesn't know, {kind}", ecc200.luminance(dark.astype(kind)),
-                     ecc200.luminance(dark))
+            self.row(f"numbers not of Pillow, {kind}", ecc200.luminance(dark.astype(kind)), ecc200.luminance(dark))
         self.row("half floats", ecc200.luminance(dim.astype(numpy.float16)), ecc200.luminance(dim))
-        self.raises("no numbers of a picture", TypeError, "rows of numbers", lambda: ecc200.luminance(
-           dark.astype(complex)))
+        self.raises("no numbers", TypeError, "rows of numbers", lambda: ecc200.luminance(dark.astype(complex)))
         if pictures.is_there():
             for name, array in given.items():
                 self.row(f"decoded, {name}", [found.data for found in ecc200.decode(array, most=1)], [b"16 bits"])
@@ -135,8 +130,7 @@ class Wanted(PackageCase):
             self.says(name, got, 2, "", parts)
             self.holds(f"{name}: no list of choices, no names of Python's",
                        not any(word in got[2] for word in ("choose from", "value:", "fromhex", "invalid")), got[2])
-        self.says("blocks through a pipe", shell("$E write --format blocks 123456 | $E read", self.room), 2, "",
-                  ["half blocks"])
+        self.says("by a pipe", shell("$E write --format blocks 123456 | $E read", self.room), 2, "", ["half blocks"])
         for text, part in (("414",
                             "each byte takes two hexadecimal digits side by side, as 41 for A, and it has 3: 414"),
                            ("4g", "it has 'g', which is no hexadecimal digit"), ("4 14 1", "side by side")):
@@ -146,18 +140,3 @@ class Wanted(PackageCase):
         for command in ("read", "check", "normal", "compare", "explain", "write", "sizes"):
             groups = [line for line in ecc(command, "--help")[1].splitlines() if line.endswith(":") and line[0] != " "]
             self.row(f"groups of {command} --help", len(groups), len(set(groups)))
-
-    def test_sizes_as_json(self):
-        """A size is named as the options name it."""
-        status, output, _ = ecc("sizes --json")
-        told = [json.loads(line) for line in output.splitlines()]
-        self.row("how many", (status, len(told)), (0, 48))
-        for shape in ("square", "rectangle", "extended"):
-            size = next(each["size"] for each in told if each["shape"] == shape)
-            self.holds(f"--size {size}", ecc("write --size", size, "--", "7")[0] == 0)
-            named = [json.loads(line)["size"] for line in ecc("sizes --shape", shape, "--json")[1].splitlines()]
-            wanted = ("rectangle", "extended") if shape == "extended" else (shape, )
-            self.row(f"--shape {shape}", named, [each["size"] for each in told if each["shape"] in wanted])
-        numbers = {name: told[0][name] for name in core.Size._fields}
-        self.row("the numbers of the smallest", numbers, core.sizes()[0]._asdict())
-        self.holds("--help speaks of sizes", "JSON for each size" in " ".join(ecc("sizes --help")[1].split()))

@@ -1,12 +1,11 @@
-"""Nothing is cut or lost in what the command writes: captions, files that are replaced when they are whole, a folder
-that isn't there, blank lines."""
+"""Nothing is cut or lost in what the command writes: captions, whole files, missing folders, blank lines."""
 import os
 import re
 import stat
 
 from tests.python.common import PYTHON, PackageCase, ecc, environment, run
 from tests.python.test_batches import saved, shell, symbols
-from tests.support import needs, places
+from tests.support import places
 
 import ecc200
 from ecc200 import drawing
@@ -43,7 +42,6 @@ sys.exit(main(["write", "-o", *sys.argv[1:]]))
 """
 
 
-@needs.library
 class Whole(PackageCase):
     def test_captions(self):
         """Of letters that go below the line nothing is cut off: a page that is longer has no more of them."""
@@ -54,9 +52,8 @@ class Whole(PackageCase):
                 page = drawing.alone(ecc200.write(b"A"), 0.5, 2, caption)
                 longer = page._replace(height=page.height + 5)
                 self.row(f"{caption} in {kind}", rendered(self.room, kind, page), rendered(self.room, kind, longer))
-                bare = page._replace(lines=())
                 self.holds(f"{caption} is drawn in {kind}",
-                           rendered(self.room, kind, page) > rendered(self.room, kind, bare) + 100)
+                           rendered(self.room, kind, page) > rendered(self.room, kind, page._replace(lines=())) + 100)
 
     def test_replaced(self):
         """A file is as it was before until the new one is whole."""
@@ -82,8 +79,7 @@ class Whole(PackageCase):
         self.row("the file is new", open(before, "rb").read(4), b"\x89PNG")
         got = shell("umask 027; $E write new -o other.txt; stat -c %a other.txt", here)
         self.says("the mode of a new file", got, output="640\n")
-        self.says("a device", shell("$E write 123456 -o /dev/stdout --format txt | cat", here),
-                  output=symbols(b"123456"))
+        self.says("device", shell("$E write 123456 -o /dev/stdout --format txt | cat", here), output=symbols(b"123456"))
         self.says("a device without room", shell("$E write A -o /dev/full --format png", here), 2, "",
                   ["ecc200: /dev/full: No space left"])
         path = os.path.join(here, "saved.svg")
@@ -91,8 +87,7 @@ class Whole(PackageCase):
         self.row("by Python", (open(path, "rb").read(), sorted(os.listdir(here))),
                  (ecc200.encode(b"A").svg(), ["label.png", "link.png", "other.txt", "saved.svg"]))
         nowhere = os.path.join(here, "none", "a.svg")
-        self.raises("the name that was given is said", FileNotFoundError, nowhere,
-                    lambda: ecc200.encode(b"A").save(nowhere))
+        self.raises("the name given is said", FileNotFoundError, nowhere, lambda: ecc200.encode(b"A").save(nowhere))
 
     def test_missing_folder(self):
         """An output folder that isn't there is one error, whatever the number of labels."""
@@ -110,8 +105,7 @@ class Whole(PackageCase):
         self.says("a folder that takes no files is said once", got, 2, "", ["ecc200: label-1.svg: Permission denied\n"])
         self.row("lines that say so", got[2].count("\n"), 1)
         path = saved(here, "label.svg", b"before")
-        self.says("a file in it that may be written", run([PYTHON, "-c", REFUSED, path, "1"], env=environment()),
-                  output="")
+        self.says("a file that may be written", run([PYTHON, "-c", REFUSED, path, "1"], env=environment()), output="")
         self.row("is written", open(path, "rb").read(5), b"<svg ")
 
     def test_blank_lines(self):

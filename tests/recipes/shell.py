@@ -1,5 +1,4 @@
-"""Runs commands of docs/INTERCHANGE.md, after the functions that it has and calls of encoders, in a folder with two
-grids."""
+"""Runs commands of docs/INTERCHANGE.md, after its functions and calls of encoders, in a folder with two grids."""
 import functools
 import os
 import re
@@ -12,8 +11,7 @@ PAGE = places.path("docs", "INTERCHANGE.md")
 PATHS = (os.path.dirname(places.PROGRAM), places.path("scripts"), places.path("library", "python", "bin"))
 PATH = os.pathsep.join([*PATHS, os.environ["PATH"]])
 ZXING = "/usr/share/java/core.jar"
-# The Debian packages of what a command calls, and the program by which each is known to be there, where it has another
-# name.
+# The Debian packages of what a command calls, and the program by which each is known, where that is another.
 PACKAGES = {"zint": "zint", "dmtxwrite": "dmtx-utils", "dmtxread": "dmtx-utils", "iec16022": "iec16022",
             "ZXingWriter": "zxing-cpp-tools", "zxing": "libzxing-core-java default-jdk-headless", "pngtopnm": "netpbm",
             "pnmtopng": "netpbm", "grid": "netpbm", "picture": "netpbm"}
@@ -27,7 +25,10 @@ iec16022_grid() {{ iec16022 -f Text "$@" | tr '* ' 10; }}
 ZXingWriter_grid() {{
   ZXingWriter -margin 0 -size 1x1 DataMatrix "$1" "$0.png" && pngtopnm "$0.png" | grid; rm -f "$0.png"
 }}
-zxing() {{ java -cp '{ZXING}:.' ZxingWrites "$@"; }}
+zxing() {{
+  echo "$([ -n "$2" ] && echo 0 || echo -1) $(printf %s "$1" | od -An -v -t x1 | tr -d ' \\n')" |
+    java -cp '{ZXING}:.' Zxing write | tr , '\\n'
+}}
 wider() {{ sed "s/./$(printf '&%.0s' $(seq "$1"))/g"; }}
 larger() {{ wider "$1" | awk -v times="$1" 'NF {{ for (n = 0; n < times; n++) print }}'; }}
 edifact='ABC.DEF-GHI/JKL+MNO*123' envelope=$(printf '[)>\\03605\\035A123\\035B456\\036\\004')
@@ -57,7 +58,6 @@ def functions():
 
 
 def is_installed(tool):
-    """Whether what a command calls is installed."""
     return os.path.isfile(ZXING) and needs.has("javac") if tool == "zxing" else needs.has(TOOLS.get(tool, tool))
 
 
@@ -76,13 +76,6 @@ class Shell(Case):
         cls.room = cls.folder_of_class()
 
     @classmethod
-    def compile_zxing(cls):
-        """Compiles the calls of ZXing, where it is installed."""
-        if os.path.isfile(ZXING) and needs.has("javac"):
-            source = places.path("tests", "recipes", "ZxingWrites.java")
-            subprocess.run(["javac", "-cp", ZXING, "-d", cls.room, source], check=True)
-
-    @classmethod
     def run_here(cls, command):
         """Status, output without LFs at its end, and whether anything was said on standard error."""
         done = commands.run(["bash", "-c", f"{functions()}\n{command}"], cwd=cls.room,
@@ -91,10 +84,20 @@ class Shell(Case):
         return done.status, done.output.decode("utf-8", "surrogateescape").rstrip("\n"), done.errors != b""
 
     def put(self, name, content):
-        """Writes a file of the folder."""
         places.wrote(content, self.room, name)
 
     def needs_of(self, command):
         """Skips the row or the case where something that a command needs isn't installed."""
         if reason := lacking(command):
             self.skipTest(reason)
+
+
+class Zxing(Shell):
+    """A case that calls ZXing, where it is installed."""
+
+    @classmethod
+    def setUpClass(cls):
+        super().setUpClass()
+        if os.path.isfile(ZXING) and needs.has("javac"):
+            source = places.path("tests", "corpus", "Zxing.java")
+            subprocess.run(["javac", "-cp", ZXING, "-d", cls.room, source], check=True)

@@ -23,8 +23,7 @@ class Capacity(Shell):
         for item, count, flag in (("7", 2 * most, ""), ("A", most, ""), (r"\xFF", most // 2, ""), (r"\F", most, ""),
                                   (r"\xFF", most - 3, "--shorter"), ("A", most, "--shorter")):
             for more, is_whole in ((0, True), (1, False)):
-                self.row(f"{count + more} of {item} {flag}", self.written(item, count + more, flag) != TOO_LONG,
-                         is_whole)
+                self.row(f"{count + more} {item} {flag}", self.written(item, count + more, flag) != TOO_LONG, is_whole)
 
     def test_each_size(self):
         for side, data in self.codewords.items():

@@ -55,8 +55,7 @@ class Comparing(Shell):
             self.row(number, self.run_here(f"dm_same --border {number} g g 2>&1"), (2, said, False))
 
     def test_help(self):
-        wanted = (0, "usage: dm_same [--border N] A B", False)
-        self.assertEqual(self.run_here("dm_same --help | head -n 1"), wanted)
+        self.assertEqual(self.run_here("dm_same --help | head -n 1"), (0, "usage: dm_same [--border N] A B", False))
 
     def test_programs_that_stand_for_dm_tool_and_fail(self):
         fake = os.path.join(self.folder(), "dm_tool")

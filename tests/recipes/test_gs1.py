@@ -1,5 +1,4 @@
-"""GS1 element strings by the recipe of docs/INTERCHANGE.md: each identifier before another, as zint has it; strings
-that are none; a needless FNC1."""
+"""GS1 element strings by the recipe of docs/INTERCHANGE.md: each identifier before another; none; a needless FNC1."""
 from tests.recipes.shell import Shell
 from tests.support import needs
 

@@ -1,18 +1,13 @@
 """Tries the recipes of docs/INTERCHANGE.md that tell their result, and each row of the table of what you see and what
 to do, with the encoders that are installed. Nothing is proved here."""
 from tests.recipes.rows import ROWS
-from tests.recipes.shell import Shell, blocks, lacking, page
+from tests.recipes.shell import Zxing, blocks, lacking, page
 from tests.support import needs
 
 
 @needs.library
 @needs.program
-class Recipes(Shell):
-    @classmethod
-    def setUpClass(cls):
-        super().setUpClass()
-        cls.compile_zxing()
-
+class Recipes(Zxing):
     def test_each_line_that_tells_its_result(self):
         for number, block in enumerate(blocks(), 1):
             if "() {" not in block and "tests.corpus.make" not in block:
@@ -34,12 +29,7 @@ class Recipes(Shell):
 
 
 @needs.program
-class Table(Shell):
-    @classmethod
-    def setUpClass(cls):
-        super().setUpClass()
-        cls.compile_zxing()
-
+class Table(Zxing):
     @staticmethod
     def table():
         """The rows of the table of what you see."""
@@ -49,8 +39,7 @@ class Table(Shell):
     def test_something_is_tried_of_each_row(self):
         rows = self.table()
         self.there((f"{row:.60}", any(words in row for words, _, _ in ROWS)) for row in rows)
-        self.rows((f"the row of {words}", sum(words in row for row in rows), 1)
-                  for words in dict.fromkeys(row[0] for row in ROWS))
+        self.rows((f"{words}", sum(words in row for row in rows), 1) for words in dict.fromkeys(row[0] for row in ROWS))
 
     def test_what_each_row_says_is_seen(self):
         for _, command, seen in ROWS:

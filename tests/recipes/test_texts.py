@@ -1,5 +1,4 @@
-"""Text by the recipes of docs/INTERCHANGE.md: all bytes spelled and back, and what is no text; pictures, and what is
-none."""
+"""Text by the recipes of docs/INTERCHANGE.md: all bytes spelled and back, no text; pictures, and what is none."""
 from tests.recipes.shell import Shell
 from tests.support import needs
 

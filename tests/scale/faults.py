@@ -1,6 +1,5 @@
 """Faults of each kind, and runs of a recipe of docs/SCALE.md that they hit: a status below 3 may come only with all
-answers, and what is written before is a beginning of them. Texts are so long that a job which ends at once ends before
-its part is written."""
+answers, and what is written before begins them. Texts are longer than a job takes that ends at once."""
 import concurrent.futures
 import contextlib
 import functools
@@ -10,7 +9,7 @@ import subprocess
 import tempfile
 import time
 
-from tests.scale.runs import PATH, Scale, STANDARD_INPUT, environment, left_in, put, ran
+from tests.scale.runs import PATH, STANDARD_INPUT, Parallel, environment, left_in, put, ran
 from tests.support import commands, places
 from tests.support.places import PROGRAM
 
@@ -36,14 +35,13 @@ FAULTS = {
     "sees GNU parallel killed": "kill -s KILL $parallel; cat > /dev/null",
     "sees the joint killed": "pkill -KILL -P $script -f 'sub pass'; sleep 0.2; REAL",
 }
-# Faults of what is around the program, which is none on other machines or without dm_parts; and those in which the
-# program's own answers are wrong.
+# Faults of what is around the program, which is none on other machines; and those with wrong answers.
 AROUND = {"is killed with its job", "sees GNU parallel killed", "sees the joint killed"}
 LIES = {"is killed with its job", "is killed after 100,000 bytes", "ends with 0 after 100,000 bytes",
         "answers once more"}
 FAKE = """#!/bin/sh
-# Stands for dm_tool. In the job that is hit, or in all if that is number 0, it has a fault. GNU parallel numbers its
-# jobs.
+# Stands for dm_tool. In the job that is hit, or in all if that is number 0, it has a fault.
+SETTINGS
 number=${PARALLEL_SEQ:-1}
 if [ "$HIT" -ne 0 ] && [ "$HIT" -ne "$number" ]; then exec REAL; fi
 look() {
@@ -79,8 +77,7 @@ def texts():
 
 
 def verdict(done, answers, wanted, left, sure=True, lies=False):
-    """What is wrong with a run that a fault has hit, or None. Where the fault is sure, the run can't have all answers;
-    where the program lies, what it wrote needn't be answers."""
+    """What is wrong with a run that a fault has hit, or None. A sure fault loses answers; a lying one has others."""
     status, said = done
     complete = (status, answers) == wanted
     if status < 3 and (sure or not complete):
@@ -92,40 +89,45 @@ def verdict(done, answers, wanted, left, sure=True, lies=False):
     return f"there are left {left}" if left else None
 
 
+def beside(folder, given):
+    return left_in(folder) + [name for name in os.listdir(folder) if name not in (*given, "scratch", "answers.txt")]
+
+
+def answers_in(folder):
+    with contextlib.suppress(FileNotFoundError):
+        return places.read(folder, "answers.txt")
+    return b""
+
+
 def hit(block, given, wanted, *, path=PATH, env=None, sure=True, lies=False, ssh=None, is_first=False, **options):
-    """A recipe that a fault hits, in a folder of its own: what is wrong, or None. What a killed process leaves behind
-    may still write there."""
+    """A recipe that a fault hits, in a folder of its own, where a killed process may still write: what is wrong."""
     with tempfile.TemporaryDirectory(ignore_cleanup_errors=True) as folder:
         put(folder, given)
         settings = {**environment(folder, path, ssh, is_first), **(env or {})}
         done = subprocess.run(["bash", "-c", block], cwd=folder, env=settings, stdin=subprocess.DEVNULL,
                               stderr=subprocess.PIPE, timeout=300, start_new_session=True, **options)
-        answers = b""
-        if os.path.isfile(os.path.join(folder, "answers.txt")):
-            answers = places.read(folder, "answers.txt")
-        left = left_in(folder) + [name for name in os.listdir(folder) if name not in (*given, "scratch", "answers.txt")]
+        answers, left = answers_in(folder), beside(folder, given)
         if "--output" in block and done.returncode > 1 and os.path.lexists(os.path.join(folder, "answers.txt")):
             left.append("answers.txt")
         return verdict((done.returncode % 256, done.stderr), answers, wanted, left, sure, lies)
 
 
-def made_fake(folder, body, words):
-    """A folder for the path, in which dm_tool has a fault; and its settings, but for the number of the job that is
-    hit."""
+def made_fake(folder, body, number=1, is_around=False, lines=1):
+    """A path on which dm_tool has a fault in the job with this number; its last answer has so many lines."""
+    settings = f"HIT={number} AROUND={'yes' if is_around else 'no'} LINES_OF_LAST={lines}"
     fake = os.path.join(folder, "fake")
     os.makedirs(fake, exist_ok=True)
-    places.wrote(FAKE.replace("FAULT", body).replace("REAL", f'{PROGRAM} "$@"'), folder, "made")
-    os.chmod(os.path.join(folder, "made"), 0o755)
+    text = FAKE.replace("SETTINGS", settings).replace("FAULT", body).replace("REAL", f'{PROGRAM} "$@"')
+    os.chmod(places.wrote(text, folder, "made"), 0o755)
     os.replace(os.path.join(folder, "made"), os.path.join(fake, "dm_tool"))
-    return fake, {"LINES_OF_LAST": "1" if words[0] in ("read", "check") else "2"}
+    return fake + os.pathsep + PATH
 
 
 def planted(fault, block, given, words, wanted, number):
     """What is wrong with a recipe one of whose jobs has a fault, or None."""
     with tempfile.TemporaryDirectory() as folder:
-        fake, env = made_fake(folder, FAULTS[fault], words)
-        env.update({"HIT": str(number), "AROUND": "yes" if fault in AROUND else "no"})
-        return hit(block, given, wanted, path=fake + os.pathsep + PATH, env=env, lies=fault in LIES)
+        path = made_fake(folder, FAULTS[fault], number, fault in AROUND, 1 if words[0] in ("read", "check") else 2)
+        return hit(block, given, wanted, path=path, lies=fault in LIES)
 
 
 def tried(call):
@@ -154,13 +156,11 @@ def without(folder, *names):
 
 
 def to_output(block):
-    """A recipe that writes its answers to standard output."""
     return block.rstrip("\n").replace("--output answers.txt ", "").replace("> answers.txt", "")
 
 
 def limited(name, kind, most):
-    """A run whose process gets a limit: of one recipe a first run, since what GNU parallel measures then is the same
-    for each."""
+    """A run whose process gets a limit: of one recipe a first run, since what is measured then is the same for each."""
     return {"is_first": name == "a file of grids on all processors",
             "preexec_fn": lambda: resource.setrlimit(kind, (most, most))}
 
@@ -175,8 +175,7 @@ def machines(folder):
 
 
 def missing_text(block):
-    """A recipe without its text. Where the shell itself can't open standard input, nothing is run, and it says so with
-    a status of its own."""
+    """A recipe without its text, of which the shell may say so itself, where it can't open standard input."""
     with tempfile.TemporaryDirectory() as folder:
         done = commands.run(["bash", "-c", block], cwd=folder, env=environment(folder), stdin=subprocess.DEVNULL)
         by_shell = block == STANDARD_INPUT and done.status == 1 and b"No such file" in done.errors
@@ -184,14 +183,12 @@ def missing_text(block):
 
 
 def in_session(session):
-    """The processes of a session that haven't ended."""
     listed = subprocess.run(["ps", "-eo", "sid=,stat=,args="], capture_output=True, text=True).stdout.splitlines()
     return [line for line in listed if line.split()[0] == str(session) and not line.split()[1].startswith("Z")]
 
 
 def signalled(block, given, wanted, number, to_all, delay):
-    """A recipe that gets a signal after so many seconds, as from Ctrl-C if all its processes get it; delay None: once
-    an answer has come."""
+    """A recipe that gets a signal after so many seconds, or all its processes; delay None: once an answer has come."""
     with tempfile.TemporaryDirectory() as folder:
         put(folder, given)
         words = ["sh", "-c", "exec " + block.split("\n")[1]]
@@ -202,15 +199,12 @@ def signalled(block, given, wanted, number, to_all, delay):
         (os.killpg if to_all else os.kill)(run.pid, number)
         more, said = run.communicate(timeout=60)
         time.sleep(0.2)
-        if "--output" in block:
-            with contextlib.suppress(FileNotFoundError), open(os.path.join(folder, "answers.txt"), "rb") as file:
-                more = file.read()
-        left = left_in(folder) + [name for name in os.listdir(folder) if name not in (*given, "scratch", "answers.txt")]
-        wrong = verdict((run.returncode % 256, said), answers + more, wanted, left, delay is None)
+        answers = answers_in(folder) if "--output" in block else answers + more
+        wrong = verdict((run.returncode % 256, said), answers, wanted, beside(folder, given), delay is None)
         return wrong or (in_session(run.pid) or None)
 
 
-class Faults(Scale):
+class Faults(Parallel):
     """A case with texts, and what the program answers to them in one run."""
 
     @classmethod

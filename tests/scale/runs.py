@@ -26,8 +26,7 @@ def ran(words, given):
 
 
 def grids():
-    """Symbols of several sizes, damaged ones, and refused records of each kind, with empty lines before, between and
-    after."""
+    """Symbols of several sizes, damaged ones, and refused records of each kind, with empty lines around."""
     status, written = ran(["write"], b"123456\nA\n" + b"7" * 30 + b"\n" + b"\\x80" * 60 + b"\n")
     good = written.rstrip(b"\n").split(b"\n\n")
     first = good[0]
@@ -43,8 +42,7 @@ def grids():
 
 
 def blocks():
-    """The recipes of the page by the comment in their first line, in sh and in Python, and the one that it has in a
-    sentence."""
+    """The recipes of the page by the comment in their first line, in sh and in Python, and one in a sentence."""
     text = places.text_of("docs", "SCALE.md")
     found = [block for language in ("sh", "python") for block in re.findall(rf"```{language}\n(.*?)```", text, re.S)]
     assert "`dm_parts read < grids.txt`" in text
@@ -53,14 +51,12 @@ def blocks():
 
 @functools.cache
 def measured():
-    """The folder of what GNU parallel measures of the machine, for all runs but those that look at how it does so, or
-    at what it leaves."""
+    """The folder of what GNU parallel measures of the machine, for all runs but those that look at that."""
     return tempfile.TemporaryDirectory(prefix="parallel-")
 
 
 def environment(folder, path=PATH, ssh=None, is_first=False):
-    """HOME is an empty folder, so that GNU parallel finds no profile; SHELL is empty, as it may be in an automatic job.
-    A first run finds nothing measured."""
+    """HOME is empty, so that GNU parallel finds no profile, and so is SHELL. A first run finds nothing measured."""
     scratch = os.path.join(folder, "scratch")
     os.makedirs(scratch, exist_ok=True)
     hosts = {"PARALLEL_SSH": ssh} if ssh else {}
@@ -74,7 +70,6 @@ def put(folder, texts):
 
 
 def left_in(folder):
-    """What a run left in its folder for temporary files."""
     return sorted(os.listdir(os.path.join(folder, "scratch")))
 
 
@@ -84,8 +79,7 @@ def recipe(block, folder, texts, ssh=None, is_first=False):
     env = environment(folder, ssh=ssh, is_first=is_first)
     done = subprocess.run(["bash", "-c", block], cwd=folder, env=env, stdin=subprocess.DEVNULL, stderr=subprocess.PIPE,
                           timeout=300)
-    answers = os.path.join(folder, "answers.txt")
-    return done.returncode, places.read(answers)
+    return done.returncode, places.read(os.path.join(folder, "answers.txt"))
 
 
 def free_port():
@@ -110,8 +104,7 @@ def hosts_of(folder, port, path):
 
 @contextlib.contextmanager
 def two_hosts(path=PATH):
-    """The ssh command that reaches the hosts `one` and `two`, which are this machine, through an sshd on the loopback
-    address."""
+    """The ssh command that reaches the hosts `one` and `two`, this machine, through an sshd on loopback."""
     with tempfile.TemporaryDirectory() as folder:
         server, client = hosts_of(folder, free_port(), path)
         if os.geteuid() == 0:
@@ -129,15 +122,14 @@ def two_hosts(path=PATH):
 
 
 def with_blocks(block, size):
-    """A recipe with parts of another size."""
     smaller = block.replace("dm_parts ", f"dm_parts --block {size} ")
     assert smaller != block
     return smaller
 
 
+@needs.program
 class Scale(Case):
-    """A case with the recipes. Its processes take signals: what a shell runs in the background ignores SIGINT, and
-    under nohup SIGHUP, and so would all that is run here."""
+    """A case with the recipes, whose processes take signals, as what runs in the background or under nohup doesn't."""
 
     @classmethod
     def setUpClass(cls):
@@ -154,3 +146,8 @@ class Scale(Case):
             self.row(which, got, wanted)
             left = sorted(os.listdir(folder)), left_in(folder)
             self.row(f"{which}, what is left", left, (sorted([*texts, "answers.txt", "scratch"]), []))
+
+
+@needs.programs("parallel")
+class Parallel(Scale):
+    """A case of what GNU parallel runs."""

@@ -1,5 +1,4 @@
-"""Runs the recipe for Dask of docs/SCALE.md as it stands there, with two workers on the loopback address, and compares
-answers, order and counts with one run of the program."""
+"""Runs the recipe for Dask of docs/SCALE.md, with two workers on loopback, and compares it with one run."""
 import os
 import re
 import subprocess
@@ -8,12 +7,21 @@ import time
 
 from tests import corpus
 from tests.scale.runs import free_port
-from tests.support import commands, needs, package, places, spelling
+from tests.support import commands, needs, package, places
 from tests.support.case import Case
 
 
+# How the program spells refusals.
+WORDS = {5: "border {0}", 6: "block {1}", 7: "reserved {1}", 8: "left-out {0} {1}", 9: "upper-shift {1}",
+         10: "triplet {1}", 11: "value {1}", 12: "length {1}", 13: "unfinished {1}", 14: "too-long"}
+
+
+def refused(why):
+    """Gives the refusal that a caller of the library tells, as the program spells it."""
+    return f"\\no {why.code.value} " + WORDS[why.code.value].format(why.value, why.place)
+
+
 def recipe():
-    """The functions of the page."""
     source = re.search(r"```python\n(# grids on Dask's workers\n.*?)```", places.text_of("docs", "SCALE.md"), re.S)[1]
     space = {}
     exec(source, space)
@@ -62,7 +70,6 @@ class Dask(Case):
 
     @staticmethod
     def connected(address):
-        """Gives a client, once both workers have come."""
         import distributed
         until = time.monotonic() + 90
         while True:
@@ -80,8 +87,7 @@ class Dask(Case):
         for size in (50, 300):
             with open(self.path, encoding="ascii") as rows:
                 answers = self.space["read_on"](client, rows, size)
-            self.row(f"answers in parts of {size}, in order", [str(answer) for answer in answers],
-                     [str(answer) for answer in here])
+            self.row(f"answers in order, {size}", [str(answer) for answer in answers], [str(answer) for answer in here])
         foreign = ["10\n", "1\xe9\n", "\n", *(f"{row}\n" for row in self.records[1])]
         self.row("a foreign character is refused by itself", [str(answer) for answer in self.space["read_on"](
             client, foreign)], [str(self.ecc200.read_many([["10", "1\xe9"]])[0]), str(here[1])])
@@ -98,6 +104,5 @@ class Dask(Case):
     def test_one_run_of_the_program_at_the_usual_extent(self):
         from ecc200.spelling import spelled
         usual = self.ecc200.read_many(self.records, extent=self.ecc200.Extent.USUAL)
-        got = [spelling.refused(answer) if isinstance(answer, self.ecc200.Refused) else spelled(answer.items)
-               for answer in usual]
+        got = [refused(it) if isinstance(it, self.ecc200.Refused) else spelled(it.items) for it in usual]
         self.assertEqual(got, self.done.output.decode().splitlines())

@@ -1,5 +1,4 @@
-"""Tries faults of a job, of the machine and of its disks on each recipe of docs/SCALE.md for one machine, and on those
-in Python."""
+"""Tries faults of a job, of the machine and its disks on each recipe of docs/SCALE.md for one machine."""
 import os
 import resource
 import subprocess
@@ -9,40 +8,26 @@ import tempfile
 from tests.scale.faults import (ALONE, AROUND, FAULTS, WORDS, Faults, hit, in_parts, limited, machines, made_fake,
                                 missing_text, planted, to_output, without)
 from tests.scale.runs import MESSAGES, PATH, Scale, environment, put, ran
-from tests.support import commands, needs, places
+from tests.support import commands, places
 
 FILE = "a file of grids on all processors"
 
 
-@needs.program
-@needs.programs("parallel")
 class Jobs(Faults):
-    """Each fault of a job: on a recipe as it stands, which then has one part, and on the first of several; of a file
-    also the third and all."""
+    """Each fault of a job: on a recipe as it stands, and on the first of several parts; of a file the third and all."""
 
-    def with_faults(self, name):
-        words = WORDS[name][1]
-        given, wanted = self.of(name)
-        tests = []
-        for fault in FAULTS:
-            for size, number in ((None, 1), ("400K", 1), ("400K", 3), ("400K", 0))[: 4 if name == FILE else 2]:
-                block = self.recipes[name] if size is None else in_parts(self.recipes[name], size)
-                which = f"{'whole' if size is None else f'in parts, job {number or chr(42)}'}: dm_tool {fault}"
-                tests.append((which, lambda a=(fault, block, given, words, wanted, number): planted(*a)))
-        self.all_tried(tests)
-
-    def test_grids_on_standard_input(self):
-        self.with_faults("grids on standard input")
-
-    def test_a_file_of_grids(self):
-        self.with_faults(FILE)
-
-    def test_messages(self):
-        self.with_faults("messages on all processors")
+    def test_each_fault(self):
+        for name in ALONE:
+            given, wanted, tests = *self.of(name), []
+            for fault in FAULTS:
+                for size, number in ((None, 1), ("400K", 1), ("400K", 3), ("400K", 0))[: 4 if name == FILE else 2]:
+                    block = self.recipes[name] if size is None else in_parts(self.recipes[name], size)
+                    which = "whole" if size is None else f"in parts, job {number or chr(42)}"
+                    run = fault, block, given, WORDS[name][1], wanted, number
+                    tests.append((f"{name}, {which}: dm_tool {fault}", lambda a=run: planted(*a)))
+            self.all_tried(tests)
 
 
-@needs.program
-@needs.programs("parallel")
 class Machine(Faults):
     """What is missing on the machine, is full, or refused; in each recipe."""
 
@@ -52,7 +37,6 @@ class Machine(Faults):
                        for which, call in tests_of(name, (self.recipes[name], *self.of(name))))
 
     def in_parts(self, name):
-        """Gives the arguments of a run in several parts."""
         return in_parts(self.recipes[name], "400K"), *self.of(name)
 
     def test_programs_that_are_missing(self):
@@ -80,7 +64,6 @@ class Machine(Faults):
         self.on_each(lambda name, _: [("no folder", lambda: hit(*self.in_parts(name), env={"TMPDIR": "/nowhere"}))])
 
     def limits(self, kind, values, told, **more):
-        """Tries a limit of the process at each of these values."""
         def tests_of(name, _):
             for most, value in values:
                 yield told.format(most), lambda v=value: hit(*self.in_parts(name), **more, **limited(name, kind, v))
@@ -90,22 +73,18 @@ class Machine(Faults):
         self.limits(resource.RLIMIT_FSIZE, [(most, most) for most in (0, 4096, 50000)], "files of at most {} bytes")
 
     def test_a_limit_of_memory(self):
-        self.limits(resource.RLIMIT_AS, [(most, most << 20) for most in range(4, 44, 8)], "{} MiB of memory",
-                    sure=False)
+        self.limits(resource.RLIMIT_AS, [(it, it << 20) for it in range(4, 44, 8)], "{} MiB of memory", sure=False)
 
     def test_a_limit_of_open_files(self):
         self.limits(resource.RLIMIT_NOFILE, [(most, most) for most in (12, 13, 16, 40)], "{} open files")
 
 
 def can_mount():
-    """Whether a disk can be mounted, which takes root's right."""
     with tempfile.TemporaryDirectory() as disk:
         words = ["mount", "-t", "tmpfs", "-o", "size=16k", "none", disk]
         return commands.said(words)[0] == 0 and commands.said(["umount", disk])[0] == 0
 
 
-@needs.program
-@needs.programs("parallel")
 class Disks(Faults):
     """A folder for temporary files, or for the answers, on a disk that is full before the end."""
 
@@ -138,8 +117,6 @@ class Disks(Faults):
         self.full("64k")
 
 
-@needs.program
-@needs.programs("parallel")
 class SameFolder(Faults):
     def test_two_runs_at_once_and_then_a_third(self):
         """In a folder with files of such names as a run may want."""
@@ -158,7 +135,6 @@ class SameFolder(Faults):
         self.row("files in that folder", sorted(os.listdir(folder)), left)
 
 
-@needs.program
 class InPython(Scale):
     """A partition and a process that stays, whose program has a fault."""
 
@@ -169,17 +145,14 @@ class InPython(Scale):
         cls.symbols = b"".join(record.replace(b"\n", b",") + b"\n" for record in text.rstrip(b"\n").split(b"\n\n")) * 50
 
     def run_over(self, source, body, given=b""):
-        """Runs Python with a program of this body in the place of dm_tool."""
-        fake, env = made_fake(self.folder(), body, ["read"])
-        settings = commands.environment(**env, HIT="1", AROUND="no", PATH=fake + os.pathsep + PATH)
-        return commands.run([sys.executable, "-c", source], given, env=settings, timeout=60)
+        env = commands.environment(PATH=made_fake(self.folder(), body))
+        return commands.run([sys.executable, "-c", source], given, env=env, timeout=60)
 
     def test_a_partition(self):
         for fault, body in FAULTS.items():
             if fault not in AROUND:
                 done = self.run_over(self.recipes["a partition"], body, self.symbols)
-                self.row(f"dm_tool {fault}", (done.status, done.output, b"answers are missing" in done.errors),
-                         (3, b"", True))
+                self.row(fault, (done.status, done.output, b"answers are missing" in done.errors), (3, b"", True))
 
     def test_a_partition_without_the_program_or_to_a_full_output(self):
         words = [sys.executable, "-c", self.recipes["a partition"]]

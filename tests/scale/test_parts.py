@@ -3,7 +3,7 @@ words. Bytes and status are compared with one run of the program."""
 import os
 import subprocess
 
-from tests.scale.runs import MESSAGES, Scale, environment, grids, left_in, put, ran, recipe, two_hosts
+from tests.scale.runs import MESSAGES, Parallel, environment, grids, left_in, put, ran, recipe, two_hosts
 from tests.support import commands, needs, places
 
 # How a text reaches dm_parts: as a file under several names, and by pipes.
@@ -19,8 +19,7 @@ WRONG_WORDS = ["", "scribble", "table", "--help-me", "--jobs", "--jobs 0 read", 
                "write --border 1", "read --border", "read --border x", "read --border 65536",
                "read --border 1 --border 1", "normal --shorter --shorter", "read --jobs 1"]
 
-# Where answers are put, with the status, and what is there afterwards under the name `old`, which had other answers
-# before.
+# Where answers are put, with the status, and what is there afterwards under the name `old`.
 OUTPUTS = [("--output old read text", 1, "new"), ("--output old read none", 0, "empty"),
            ("--output old read nosuch", 3, "old"), ("--output old read .", 3, "old"),
            ("--output . read text", 3, "old"), ("--output nosuch/old read text", 3, "old"),
@@ -31,22 +30,13 @@ OUTPUTS = [("--output old read text", 1, "new"), ("--output old read none", 0, "
            ("--output text read text; s=$?; mv text old; (exit $s)", 1, "new")]
 
 
-@needs.program
-@needs.programs("parallel")
-class Recipes(Scale):
-    def by_grids(self, name):
-        """A recipe for grids, with some refused, with none, and without any."""
+class Recipes(Parallel):
+    def test_grids(self):
+        """Grids with some refused, with none, and without any, by each recipe for one machine."""
         text, good = grids(), ran(["write"], b"A\n123456\n" * 10)[1]
-        self.tried(name, self.recipes[name], {"grids.txt": text}, ran(["read"], text))
-        self.tried(f"{name}, none refused", self.recipes[name], {"grids.txt": good}, ran(["read"], good))
-        self.tried(f"{name}, no text", self.recipes[name], {"grids.txt": b""}, (0, b""))
-        self.tried(f"{name}, LFs alone", self.recipes[name], {"grids.txt": b"\n" * 50}, (0, b""))
-
-    def test_grids_on_standard_input(self):
-        self.by_grids("grids on standard input")
-
-    def test_a_file_of_grids(self):
-        self.by_grids("a file of grids on all processors")
+        for name in ("grids on standard input", "a file of grids on all processors"):
+            for kind, given in (("", text), (", none refused", good), (", no text", b""), (", LFs alone", b"\n" * 50)):
+                self.tried(f"{name}{kind}", self.recipes[name], {"grids.txt": given}, ran(["read"], given))
 
     def test_messages(self):
         block = self.recipes["messages on all processors"]
@@ -54,9 +44,7 @@ class Recipes(Scale):
         self.tried("messages, no text", block, {"messages.txt": b""}, (0, b""))
 
 
-@needs.program
-@needs.programs("parallel")
-class Words(Scale):
+class Words(Parallel):
     def test_each_subcommand_and_option(self):
         text = grids()
         some = ("read", "check", "check --border 3", "check --border=0", "normal", "normal --shorter --border 10")
@@ -81,8 +69,7 @@ class Words(Scale):
         for words in WRONG_WORDS:
             done = commands.run(["sh", "-c", f"dm_parts {words}"], cwd=folder, env=environment(folder),
                                 stdin=subprocess.DEVNULL)
-            self.row(f"dm_parts {words}", (done.status, done.output, done.errors.count(b"usage: dm_parts")),
-                     (2, b"", 1))
+            self.row(f"parts {words}", (done.status, done.output, done.errors.count(b"usage: dm_parts")), (2, b"", 1))
 
     def test_help(self):
         folder = self.folder()
@@ -90,9 +77,7 @@ class Words(Scale):
         self.assertEqual((done.status, done.output.startswith(b"usage: dm_parts"), done.errors), (0, True, b""))
 
 
-@needs.program
-@needs.programs("parallel")
-class Outputs(Scale):
+class Outputs(Parallel):
     """A file for the answers: it is made or replaced by all answers or not at all, and nothing lies beside it."""
 
     def test_each_place_for_the_answers(self):
@@ -111,9 +96,8 @@ class Outputs(Scale):
             self.row(f"dm_parts {words}, who may read it", mode == 0o640, kind != "old")
 
 
-@needs.program
-@needs.programs("parallel", "ssh", "sshd")
-class Hosts(Scale):
+@needs.programs("ssh", "sshd")
+class Hosts(Parallel):
     @classmethod
     def setUpClass(cls):
         super().setUpClass()

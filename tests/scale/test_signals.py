@@ -1,12 +1,11 @@
-"""Signals that the recipes of docs/SCALE.md get: while they run, and between what dm_parts makes and its knowing of
-that."""
+"""Signals that the recipes of docs/SCALE.md get: while they run, and while dm_parts makes something."""
 import os
 import shutil
 import signal
 
 from tests.scale.faults import ALONE, Faults, hit, in_parts, signalled, to_output
 from tests.scale.runs import PATH
-from tests.support import needs, places
+from tests.support import places
 
 # Stands for mktemp, whose file or folder is there when all processes of the run get a signal, and is told afterwards.
 MAKES = """#!/bin/sh
@@ -17,8 +16,6 @@ echo "$made"
 FILE = "a file of grids on all processors"
 
 
-@needs.program
-@needs.programs("parallel")
 class Signals(Faults):
     def test_once_an_answer_has_come(self):
         for name in ALONE:
@@ -44,8 +41,6 @@ class Signals(Faults):
                     self.sound(f"{name}, into a file: SIGINT after {delay} s", signalled(kept, *self.of(name), *how))
 
 
-@needs.program
-@needs.programs("parallel")
 class Starts(Faults):
     def beside(self, fake):
         """What is wrong with a run that finds the programs of a folder first."""

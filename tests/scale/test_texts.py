@@ -6,7 +6,7 @@ import sys
 from unittest import mock
 
 from tests.scale.runs import MESSAGES, PATH, Scale, environment, grids, ran, recipe
-from tests.support import commands, needs, places
+from tests.support import commands, places
 
 # What is done to the text before its symbols are put on lines, the last for good.
 SYMBOLS = [("symbols of a text", ":"), ("symbols on a full disk", ":"), ("symbols of no text", "rm grids.txt"),
@@ -22,7 +22,6 @@ def ends_between(text, of_lines):
     return text == b"" or (text.endswith(b"\n") if of_lines else text == b"\n" or text.endswith(b"\n\n"))
 
 
-@needs.program
 class TornTexts(Scale):
     """Each text is torn in two at each place where that changes nothing, and into all these parts at once."""
 
@@ -33,21 +32,14 @@ class TornTexts(Scale):
             first, second = ran(words, whole[:at]), ran(words, whole[at:])
             got = max(first[0], second[0]), first[1] + second[1]
             if got != wanted:
-                self.row(f"after {at} bytes", got, wanted)
+                self.row(f"{words} after {at} bytes", got, wanted)
         parts = [ran(words, whole[a:b]) for a, b in zip([0] + places, places + [len(whole)])]
         got = max(status for status, _ in parts), b"".join(out for _, out in parts)
-        self.row(f"in two at {len(places)} places, and at all of them", got, wanted)
+        self.row(f"{words} in two at {len(places)} places, and at all of them", got, wanted)
 
-    def test_grids_torn_between_records_are_read_as_the_whole(self):
-        self.torn(["read"], grids())
-
-    def test_grids_torn_between_records_are_checked_as_the_whole(self):
-        self.torn(["check", "--border", "3"], grids())
-
-    def test_grids_torn_between_records_become_the_same_normal_grids(self):
-        self.torn(["normal"], grids())
-
-    def test_messages_torn_between_lines_are_written_as_the_whole(self):
+    def test_texts_torn_between_records_or_lines_are_answered_as_the_whole(self):
+        for words in (["read"], ["check", "--border", "3"], ["normal"]):
+            self.torn(words, grids())
         self.torn(["write"], MESSAGES)
 
     def test_a_torn_record_is_not_read_as_the_whole(self):
@@ -56,7 +48,6 @@ class TornTexts(Scale):
         self.assertNotEqual(ran(["read"], text[:at])[1] + ran(["read"], text[at:])[1], ran(["read"], text)[1])
 
 
-@needs.program
 class SymbolsOnLines(Scale):
     @classmethod
     def setUpClass(cls):
@@ -98,14 +89,11 @@ class SymbolsOnLines(Scale):
             self.row(name, self.partition([], self.symbols + hostile + self.symbols), (3, b""))
 
 
-@needs.program
 class ProcessThatStays(Scale):
-    """The Python of the page, asked for each record of a text, with the usual and with a small number of bytes a
-    process."""
+    """The Python of the page, asked for each record of a text, with the usual and a small number of bytes."""
 
     def setUp(self):
-        text = grids()
-        records = [rows.decode("latin-1").split("\n") for rows in text.strip(b"\n").split(b"\n\n") if rows.isascii()]
+        records = [rows.decode("latin-1").split("\n") for rows in grids().strip(b"\n").split(b"\n\n") if rows.isascii()]
         self.records = [rows for rows in ([row for row in rows if row] for rows in records) if rows]
         self.enterContext(mock.patch.dict(os.environ, {"PATH": PATH}))
         space = {}
@@ -117,10 +105,8 @@ class ProcessThatStays(Scale):
         return ran(words, "\n".join(rows).encode())[1].decode().rstrip("\n")
 
     def asked(self, reader):
-        """Asks for each record."""
         text = "\n\n".join("\n".join(rows) for rows in self.records).encode()
-        self.row("answers", [reader.ask(rows) for rows in self.records],
-                 ran(["read"], text)[1].decode().split("\n")[:-1])
+        self.row("answers", [reader.ask(it) for it in self.records], ran(["read"], text)[1].decode().split("\n")[:-1])
         self.row("status", reader.close() in (0, 1), True)
 
     def test_each_record_is_answered(self):

@@ -1,2 +1,1 @@
-"""What the tests of all subjects share: where things lie, commands, what is installed, and the case that they are
-written with."""
+"""What the tests of all subjects share: where things lie, commands, what is installed, and their case."""

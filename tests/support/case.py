@@ -1,5 +1,4 @@
-"""The case with which tests are written. Rows of a table are subtests, so that each failure names its row; temporary
-folders and processes are gone when the case ends."""
+"""The case with which tests are written: rows of a table are subtests, and folders and processes end with it."""
 import shutil
 import tempfile
 import unittest
@@ -11,7 +10,6 @@ SHOWN = 600
 
 
 def shown(value):
-    """Gives the beginning of a value's text."""
     text = repr(value)
     return text if len(text) <= SHOWN else f"{text[:SHOWN]} .. ({len(text)} characters)"
 

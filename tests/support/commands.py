@@ -8,8 +8,7 @@ from tests.support import places
 
 
 class Ended(NamedTuple):
-    """How a command ended: its status, what it wrote to standard output, and to standard error; None where that went
-    elsewhere."""
+    """How a command ended: its status, its standard output, and its errors; None for what went elsewhere."""
     status: int
     output: bytes | None
     errors: bytes | None
@@ -38,8 +37,7 @@ def run(words, given=b"", *, env=None, timeout=300, **how):
 
 
 def said(words, **how):
-    """Gives the status of a command and all that it writes, as text; status 127 if it isn't there, and -1 if it doesn't
-    end."""
+    """Gives the status of a command and all that it writes, as text; 127 if it isn't there, -1 if it doesn't end."""
     try:
         done = run(words, **{"timeout": 1800, "stderr": subprocess.STDOUT, **how})
     except subprocess.TimeoutExpired:

@@ -8,7 +8,6 @@ from tests.support import places
 
 @functools.cache
 def callers():
-    """Gives tools/callers as a module."""
     loader = importlib.machinery.SourceFileLoader("callers", places.path("tools", "callers"))
     module = importlib.util.module_from_spec(importlib.util.spec_from_loader("callers", loader))
     loader.exec_module(module)
@@ -17,5 +16,4 @@ def callers():
 
 @functools.cache
 def interface():
-    """Gives what the header says."""
     return callers().interface_of(places.text_of("library", "ecc200.h"))

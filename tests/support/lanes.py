@@ -20,7 +20,6 @@ LONGEST = ("page", "edits.dm_words", "edits.dm_symbol")
 
 
 def cases_of(suite):
-    """Gives the cases of a suite, one by one."""
     for it in suite:
         yield from cases_of(it) if isinstance(it, unittest.TestSuite) else [it]
 
@@ -34,7 +33,6 @@ def lane_of(case):
 
 
 def lanes_of(suite):
-    """Gives the cases of each lane, in the order in which they stand."""
     lanes = {}
     for case in cases_of(suite):
         lanes.setdefault(lane_of(case), []).append(case)
@@ -42,8 +40,7 @@ def lanes_of(suite):
 
 
 def run(suite, tally, count, words):
-    """Runs a suite in so many lanes at a time, or here if it has but one lane. The words are those of a run that also
-    hold in a lane."""
+    """Runs a suite in so many lanes at a time, or here if it has but one, by the words of a run that hold there."""
     lanes = lanes_of(suite)
     if count < 2 or len(lanes) < 2:
         suite.run(tally)
@@ -54,8 +51,6 @@ def run(suite, tally, count, words):
 
 
 class Lanes:
-    """Lanes that run side by side."""
-
     def __init__(self, lanes, words):
         self.names = {name: [case.id() for case in cases] for name, cases in lanes.items()}
         self.reports = {name: queue.SimpleQueue() for name in lanes}

@@ -1,5 +1,4 @@
-"""What is installed or built. A class or a case that needs something is skipped with its reason where that isn't
-there."""
+"""What is installed or built. What needs something that isn't there is skipped with its reason."""
 import fcntl
 import functools
 import importlib.util
@@ -26,7 +25,6 @@ PATH = os.pathsep.join([os.environ.get("PATH", os.defpath), "/usr/sbin"])
 
 
 def has(*programs):
-    """Whether all of these programs are installed."""
     return all(shutil.which(program, path=PATH) for program in programs)
 
 
@@ -41,10 +39,12 @@ def programs(*names):
 
 
 def page(kind):
-    """Skips a class or a case where something isn't installed that `make page` needs."""
+    """Marks a class whose cases use the page, which `make page` brings up to date first. Where something isn't
+    installed that this needs, they are skipped."""
     has_libc = unittest.skipUnless(os.path.isfile(WASI_LIBC), "wasi-libc isn't installed (Debian package wasi-libc)")
     has_font = unittest.skipUnless(os.path.isfile(FONT), "the font isn't installed (Debian package fonts-dejavu-core)")
-    return programs(*PAGE, "node")(has_font(has_libc(kind)))
+    used = built(kind, places.path("web", "out", "mitsubadoor.html"), "page", lambda _: made("page"))
+    return programs(*PAGE, "node")(has_font(has_libc(used)))
 
 
 def module(name):
@@ -59,21 +59,18 @@ def toolchain(kind):
 
 
 def program(kind):
-    """Marks a class whose cases run the program. Where it isn't built they fail, or are skipped if the toolchain isn't
-    there either."""
+    """Marks a class whose cases run the program. They fail where it isn't built, or are skipped without a toolchain."""
     return built(kind, places.PROGRAM, "build", lambda why: None if os.path.isfile(places.PROGRAM) else why)
 
 
 def library(kind):
-    """Marks a class whose cases use the library, which `make library` brings up to date first, or without the toolchain
-    `make assembled`, unless another one is named."""
+    """Marks a class whose cases use the library, by `make library` or `make assembled`, unless another is named."""
     target = "library" if has("rt") else "assembled"
     return built(kind, places.SHARED, target, lambda _: None if is_library_built() else made(target))
 
 
 def have_library():
-    """Builds the library, where it isn't and can be, for a module that imports the package over it; where it can't be,
-    the module is skipped."""
+    """Builds the library, where it isn't and can be, for a module that imports the package; else that is skipped."""
     if not os.path.isfile(places.SHARED) and not has("rt"):
         raise unittest.SkipTest("the library isn't built (run `make library` first)")
     if problem := None if is_library_built() else made("library"):
@@ -87,8 +84,7 @@ def is_library_built():
 
 
 def built(kind, file, target, problem_of):
-    """Marks a class that needs a file of `make TARGET`. `problem_of` says, before its first case, why it can't be used,
-    if it can't."""
+    """Marks a class that needs a file of `make TARGET`, unless `problem_of` says before its first case why it can't."""
     reason = f"{os.path.relpath(file, places.TOP)} isn't built (run `make {target}` first)"
     if not os.path.isfile(file) and not has("rt"):
         return unittest.skip(reason)(kind)
@@ -105,8 +101,7 @@ def built(kind, file, target, problem_of):
 
 @functools.cache
 def made(target):
-    """Runs `make TARGET`, one at a time in this checkout, and says what is wrong, if anything is. What is built already
-    stays."""
+    """Runs `make TARGET`, one at a time in this checkout, and says what is wrong. What is built already stays."""
     print(f"make {target}, which can take minutes", flush=True)
     os.makedirs(places.path("out"), exist_ok=True)
     with open(places.path("out", "making"), "w", encoding="ascii") as lock:

@@ -20,7 +20,6 @@ def room():
 
 
 def tree():
-    """Gives the folder with the package."""
     return os.path.join(room().name, "tree")
 
 

@@ -1,5 +1,4 @@
-"""Where things lie. ECC200_FOLDER names another folder with libecc200.a and libecc200.so, which are then taken as they
-are."""
+"""Where things lie. ECC200_FOLDER names another folder with the libraries, which are then taken as they are."""
 import os
 
 TOP = os.path.dirname(os.path.dirname(os.path.dirname(os.path.abspath(__file__))))
@@ -22,13 +21,11 @@ SHARED = os.path.join(BUILT, "libecc200.so")
 
 
 def text_of(*parts):
-    """Gives the text of a file."""
     with open(path(*parts), encoding="utf-8") as file:
         return file.read()
 
 
 def read(*parts):
-    """Gives the bytes of a file."""
     with open(path(*parts), "rb") as file:
         return file.read()
 

@@ -26,7 +26,6 @@ class Tally(unittest.TestResult):
 
     @property
     def skips(self):
-        """How many cases and rows were left out."""
         return sum(map(len, self.left_out.values()))
 
     def leave_out(self, cases, reason):
@@ -47,7 +46,6 @@ class Tally(unittest.TestResult):
             self.left_out[reason] += names
 
     def counts(self):
-        """What is counted so far: passed, failed, left out."""
         return self.passed, self.failed, self.skips
 
     # ---- What unittest calls
@@ -104,7 +102,6 @@ class Tally(unittest.TestResult):
         self.say(f"FAILED {name_of(test)}: {said}")
 
     def end_class(self):
-        """Tells what became of the class whose cases were run last."""
         if self.kind:
             changes = zip(("passed", "failed", "skipped"), self.before, self.counts())
             told = ", ".join(f"{now - was} {word}" for word, was, now in changes if now > was)
@@ -114,8 +111,7 @@ class Tally(unittest.TestResult):
         self.kind = None
 
     def end(self):
-        """Tells what was left out, what all took, and the counts of all in the last line. Gives the status that a run
-        has to end with."""
+        """Tells what was left out, what all took, and all counts in the last line. Gives the status of the run."""
         self.end_class()
         for reason, names in self.left_out.items():
             self.say(f"left out, since {reason}: {', '.join(together(names))}")

@@ -1,18 +1,18 @@
 """`make check`: the tests of what users have, without the toolchain, in three minutes of processor time at most."""
 import importlib
 
-PYTHON = ("module", "sizes", "texts", "elements", "drawings", "surface", "messages", "comparing", "batches", "labels",
+PYTHON = ("module", "sizes", "texts", "elements", "drawings", "surface", "messages", "answers", "batches", "labels",
           "whole", "wanted", "quick")
 SAMPLER = ("options", "usage", "errors", "unread", "early", "formats", "corners", "contents", "torn", "dots",
            "sheets", "every_size", "a_label")
 # Subjects, classes and cases.
-CASES = ["documents", "library.test_callers.Answers.test_c", "library.test_callers.Answers.test_python",
-         "library.test_calls", "library.test_files", "library.test_compiled.Compiled",
+CASES = ["documents", "library.test_systems.Here", "library.test_compiled.Compiled",
          *(f"python.test_{name}" for name in PYTHON),
          *(f"sampler.test_sampler.Sampler.test_{name}" for name in SAMPLER)]
 # Cases of these that take longest, which the gate alone runs.
-DEAR = {f"test_{name}" for name in ("alike", "beside", "beside_zint", "by_threads", "first_symbols", "made_anew",
-                                    "no_picture", "round_trips", "side_by_side", "strange_grids")}
+DEAR = {f"test_{name}" for name in ("alike", "beside", "beside_zint", "by_threads", "c_with_the_sanitisers", "cpp",
+                                    "drawn", "first_symbols", "found", "grids", "made_anew", "no_picture",
+                                    "round_trips", "rust", "side_by_side", "strange_grids")}
 ROUNDS = 1_000
 UNPROVED = ("Nothing was proved here. What was tested is made of compiled/, which library/build made of the proved "
             "source; `make test` proves that, with the toolchain.")
@@ -20,4 +20,4 @@ UNPROVED = ("Nothing was proved here. What was tested is made of compiled/, whic
 
 def prepare():
     """Fewer hostile rounds than the gate takes."""
-    importlib.import_module("tests.library.test_calls").ROUNDS = ROUNDS
+    importlib.import_module("tests.library.test_systems").Here.rounds = ROUNDS

@@ -1,5 +1,4 @@
-/* Writes a symbol, hurts it, and reads it: what is printed is the version, the message, and how many codewords were
- * corrected. */
+/* Writes a symbol, hurts it, and reads it: prints the version, the message, and how many were corrected. */
 #include <ecc200.h>
 #include <stdio.h>
 #include <string.h>

@@ -1,5 +1,4 @@
-"""The command ecc200: the pages of pictures, what symbols say compared and explained, spellings, progress on a
-terminal, completion."""
+"""What the command ecc200 answers: of pages, of each codeword, at a terminal, and to a shell that completes a line."""
 import io
 import json
 import os
@@ -8,17 +7,14 @@ import subprocess
 import tempfile
 
 from tests.python.common import (PACKAGE, PYTHON, SAMPLER, TOP, WORDS, PackageCase, at_terminal, ecc, environment,
-                                 marks, run, saved)
+                                 marks, run)
 from tests.python.test_surface import edifact, hurt, text
-from tests.support import needs
 
 import ecc200
 from ecc200 import explaining
-from ecc200.spelling import Misspelled, of_spelling, shown, spelled
 
 
-@needs.library
-class Comparing(PackageCase):
+class Answers(PackageCase):
     def test_pages(self):
         """Pages behind the first are read, also without the sampler, and a turned photograph is read either way."""
         pillow = self.needed("PIL.Image", "Pillow", "pages of pictures")
@@ -48,8 +44,7 @@ class Comparing(PackageCase):
         ecc200.Symbol(hurt(1)).save(path)
         for name in ("none.so", SAMPLER):
             env = {**environment(), "ECC200_SAMPLE_LIBRARY": os.path.join(self.room, name)}
-            self.says(f"a margin that is left, {name}", run([*WORDS, "read", "--margin", "1", path], env=env),
-                      output="123456\n")
+            self.says(f"a margin, {name}", run([*WORDS, "read", "--margin", "1", path], env=env), output="123456\n")
             self.says(f"one that isn't, {name}", run([*WORDS, "read", "--margin", "2", path], env=env), 1, "",
                       ["leave fewer than 2 corrections"])
 
@@ -70,33 +65,8 @@ class Comparing(PackageCase):
             file.truncate(os.path.getsize(path) - 50)
         self.says("pages before one that is cut off", ecc("read", path), 2, "large\n", ["unlike.tiff: page 2"])
 
-    def test_comparing(self):
-        def kept(name, grid):
-            return saved(self.room, name, grid)
-        ascii_ = kept("ascii", text(ecc200.write(b"\x80" * 3)))
-        shorter = kept("shorter", text(ecc200.write(b"\x80" * 3, profile=1)))
-        other = kept("other", text(ecc200.write(b"\x80" * 4)))
-        lost = kept("lost", text([bytes(10)] * 10))
-        gs, fnc1 = kept("gs", text(ecc200.write([256, 65, 0x1D,
-                                                  66]))), kept("fnc1", text(ecc200.write([256, 65, 256, 66])))
-        plain = kept("plain", text(ecc200.write(b"A")))
-        marked = kept("marked", text(ecc200.write(b"A", gs1=True)))
-        for name, pair, status, end in [("the same", (ascii_, shorter), 0, "the same\n"),
-                                        ("different", (ascii_, other), 1, "different: they differ from item 4 on\n"),
-                                        ("separators", (gs, fnc1), 1, "has the byte 0x1D\n"),
-                                        ("marked", (plain, marked), 1, "and the other isn't\n")]:
-            got = ecc("compare", *pair)
-            self.holds(name, got[0] == status and got[1].endswith(end) and not got[2], str(got))
-        for name, pair, part in [("one isn't read", (ascii_, lost), "27 of the 36"),
-                                 ("one isn't there", (ascii_, lost + "x"), "No such file"),
-                                 ("two in one", (ascii_, kept("two", text(ecc200.write(b"A")) * 2)), "there are 2"),
-                                 ("none in one", (kept("empty", ""), ascii_), "there are no grids")]:
-            got = ecc("compare", *pair)
-            self.holds(name, got[0] >= 2 and part in got[2], str(got))
-
     def test_explained(self):
-        """Meanings: joined they are what the library reads, on all marks of other encoders and on messages of all
-        bytes."""
+        """Meanings: joined they are what the library reads, on all marks of others and on messages of all bytes."""
         grids = [[bytes(map(int, line)) for line in lines] for lines in marks()]
         grids += [ecc200.write(bytes(range(begin, begin + 32)), profile=profile) for begin in range(0, 256, 32)
                   for profile in (0, 1)] + [ecc200.write([256, 65, 256])]
@@ -120,16 +90,6 @@ class Comparing(PackageCase):
         self.row("explain --json", (words[0], len(words)), (first, 8))
         status, output, _ = ecc("explain --usual", given=edifact())
         self.holds("explain --usual", status == 1 and "what can't be read begins here" in output, output)
-
-    def test_spellings(self):
-        everything = [*range(256), 256]
-        self.row("spelled and back", of_spelling(spelled(everything), "latin-1"), (everything, [], None))
-        for wrong in ("\\", "\\q", "\\x1", "\\xg0"):
-            self.raises(f"the spelling {wrong}", Misspelled, "backslash",
-                        lambda wrong=wrong: of_spelling(wrong, "latin-1"))
-        self.row("shown", [shown(b"A\\"), shown(b"\xe9"), shown("\u00e9".encode()), shown(b"\xe9", (), "cp1252"),
-                           shown([256, 233])],
-                 ["A\\\\", "\u00e9", "\u00e9", "\u00e9", "\\F\\xE9"])
 
     def test_at_a_terminal(self):
         """Long work tells on a terminal how far it is, and only there."""
