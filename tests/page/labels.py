@@ -332,7 +332,10 @@ def asked_about_columns():
     for column, role, why in ((0, "left out", "One column has to be the message."), (0, "message", ""),
                               (1, "message", "One column has to be the message."), (1, "text", "")):
         do(CHOOSE, column, role)
-        push("columns-taken" if is_seen("columns-taken") else "many-pdf")
+        if is_seen("columns-taken"):
+            push("columns-taken")
+        elif why:
+            push("many-pdf")
         if why:
             expect(f"column {column} as {role}", (text_of("sheet-hint"), files()), (why, []))
     put("messages", "part,place\nA1,left\nB2,right")
