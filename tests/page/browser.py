@@ -7,12 +7,13 @@ import signal
 import sys
 import tempfile
 
-from tests.page.stage import RemoteConnection, Service, UselessFileDetector, WebKitService, on, webdriver
+from tests.page.stage import (HEIGHT, WIDTH, RemoteConnection, Service, UselessFileDetector, WebKitService, on,
+                              webdriver)
 from tests.support import commands, needs, places
 
 PATIENCE = 900  # seconds in which each command to the browser has to be answered
 WORDS = ("--headless=new", "--no-sandbox", "--disable-gpu", "--disable-dev-shm-usage", "--hide-scrollbars",
-         "--window-size=1240,1500")
+         f"--window-size={WIDTH},{HEIGHT}")
 started = []  # the drivers, of which each leads a session of processes
 
 

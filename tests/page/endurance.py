@@ -4,8 +4,8 @@ import time
 from tests.page.bounds import drop
 from tests.page.photographs import camera_on
 from tests.page.pictures import noise
-from tests.page.stage import (ACTS, expect, is_seen, learn, on, performance, push, run, settle, unfold, wait_for, write,
-                              written)
+from tests.page.stage import (ACTS, expect, is_seen, learn, on, performance, push, run, settle, soon, unfold, wait_for,
+                              write, written)
 
 MANY, BEFORE = 2000, 200  # the first ones fill what is kept of each size of symbol
 GROWTH = {"Nodes": 100, "JSEventListeners": 10, "JSHeapUsedSize": 1 << 20}
@@ -77,6 +77,13 @@ WATCH = """
 WATCHED = 1.5  # seconds
 
 
+def done_meanwhile():
+    """What the page does in a while in which nothing is asked of it; what is kept a little later may come first."""
+    run(WATCH)
+    time.sleep(WATCHED)  # (a script that waits in the page would set a timer by itself, in some drivers)
+    return run("again(); return calls")
+
+
 def begin_camera():
     asked = lambda: run("return mitsubadoor.desks.pictures.count")
     before = asked()
@@ -94,14 +101,10 @@ def out_of_sight():
         run("""Object.defineProperty(document, 'hidden', { configurable: true, value: true });
                document.dispatchEvent(new Event('visibilitychange'));""")
         settle()
-        time.sleep(0.5)  # the address follows a little later
-        settle()
-        run(WATCH)
-        time.sleep(WATCHED)  # (a script that waits in the page would set a timer by itself, in some drivers)
-        expect(f"{name}: what is done out of sight", run("return calls"), [])
+        soon(f"{name}: what is done out of sight", done_meanwhile, [])
         moving = run("return document.getAnimations().filter((it) => it.playState === 'running').length")
         expect(f"{name}: what moves", moving, 0)
-        run("again(); delete document.hidden")
+        run("delete document.hidden")
     tracks = run("return streams.flatMap((stream) => stream.getTracks().map((track) => track.readyState))")
     expect("the camera is off", tracks, ["ended"])
     run("delete navigator.mediaDevices")

@@ -12,9 +12,9 @@ import zlib
 from tests.page.judge import name_of, written_in
 from tests.page.paper import POINT, paper_is, printed
 from tests.page.pictures import opened
-from tests.page.stage import (choose, do, drawn_rows, expect, find, give, grid, is_seen, on, push, put, run, saved,
-                              shown, soon, spelled, task, text_of, texts_of, unfold, usable, value_of, wait_for, write,
-                              written)
+from tests.page.stage import (begin_saving, choose, do, drawn_rows, expect, find, give, grid, is_seen, on, push, put,
+                              run, saved, shown, soon, spelled, task, text_of, texts_of, unfold, usable, value_of,
+                              wait_for, write, written)
 
 
 def pages_of(pdf):
@@ -105,12 +105,6 @@ def archived(ending):
         *names, last = archive.namelist()
         expect(f"an archive of {ending}", (archive.testzip(), len(set(names)), last), (None, len(names), "labels.json"))
         return {name: archive.read(name) for name in names}
-
-
-def emptied():
-    """Removes the files that were saved."""
-    for file in on.folder.glob("symbols*"):
-        file.unlink()
 
 
 RECTANGLES = ["one", "Rectangle 2", "3333333333", "rectangle"]
@@ -244,7 +238,7 @@ def by_columns():
         expect(f"{name}: symbols and texts", in_pdf()[1:], ([written(line) for line in lines], texts))
     push("kind-message")
     for text, why in (("(01)\n123", "Message 1: It isn’t right as GS1 data: (01) GTIN, too short: 14 digits are due."),
-                      ("(01),(98)\n09506000134352,", ""),
+                      ("(01),(98)\n09506000134352,", "1 symbol is in the PDF."),
                       ("message\n", "Enter headings, and below them a row for each message."),
                       ("message\ncaf\u00e9", "Message 1: column 4 is \u00e9, which has no spelling of its own"),
                       ("message,qty\nA,two", "Message 1: two is no number of copies."),
@@ -253,13 +247,13 @@ def by_columns():
                       ("message,text\nA,1\n,2", "Message 2: its row has no message."),
                       ("message,qty\nA,1\nB,0", "1 symbol is in the PDF. 1 row wants 0 copies.")):
         put("messages", text)
-        push("many-pdf")
-        expect(f"{text!r} is said", text_of("sheet-hint"), why or "1 symbol is in the PDF.")
+        saved("symbols.pdf", "many-pdf") if "in the PDF" in why else push("many-pdf")
+        expect(f"{text!r} is said", text_of("sheet-hint"), why)
 
 
 def files():
-    """The files that were saved."""
-    return sorted(file.name for file in on.folder.iterdir() if file.name.startswith("symbols"))
+    """The files that were saved and aren't taken."""
+    return sorted(file.name for file in on.downloads.iterdir())
 
 
 def drawn_in(where):
@@ -312,7 +306,7 @@ def asked_about_columns():
     """What a heading leaves open is asked, and before it is answered nothing is given."""
     begin("50x30", lines_as="csv")
     run("globalThis.printed = 0; window.print = () => { printed++; }")
-    emptied()
+    begin_saving()
     for name, text, question, first, columns, messages, texts in ASKED:
         put("messages", "message\nanother list")
         put("messages", text)
@@ -326,7 +320,6 @@ def asked_about_columns():
         answer(first, columns)
         _, grids, below = in_pdf()
         expect(f"{name}: symbols", (grids, texts and below), ([written(message) for message in messages], texts))
-        emptied()
     put("messages", "part,place\nA1,left")
     push("first-headings")
     for column, role, why in ((0, "left out", "One column has to be the message."), (0, "message", ""),
@@ -375,7 +368,7 @@ def labels_shown():
            ["1: one", f"2: {unspelled}", "3: It isn’t right as GS1 data: (01) GTIN, too short: 14 digits are due."])
     on_one_label()
     put("messages", "one")
-    do("at('many-pdf').click(); put('messages', 'two')")
+    saved("symbols.pdf", lambda: do("at('many-pdf').click(); put('messages', 'two')"))
     expect("what is given when the list has changed", text_of("sheet-hint"), "")
     put("messages", "")
     soon("no labels without a list", lambda: is_seen("labels"), False)
@@ -523,7 +516,6 @@ def not_whole():
     """What can't be shown whole, and rows that aren't labels, are named, and nothing is saved."""
     for name, kind, text, stock, why in NOT_WHOLE:
         take(kind, text, stock)
-        emptied()
         for button in ("many-pdf", "many-png", "many-svg"):
             push(button)
             expect(f"{name}: {button}", (text_of("sheet-hint")[:len(why)], files()), (why, []))

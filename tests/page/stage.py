@@ -5,6 +5,7 @@ import io
 import pathlib
 import re
 import subprocess
+import tempfile
 import time
 
 from tests.support import package
@@ -23,6 +24,7 @@ except ImportError:
     webdriver = ActionChains = By = Keys = RemoteConnection = Service = UselessFileDetector = WebKitService = None
 
 QUIET = 2
+WIDTH, HEIGHT = 1240, 1500  # of the window
 LEFT_OUT = {"structured append": 233, "reader programming": 234, "macro 05": 236, "macro 06": 237}
 
 # What the page shows, as plain text: the verdict (of a symbol that is made as of one that is read), the meters and the
@@ -48,7 +50,7 @@ LOOKED = f"""
 class On:
     """What the tests run on; `beside` is the folder of what stands beside the page where it is served."""
 
-    program = page = module = folder = shots = part = None
+    program = page = module = folder = downloads = shots = part = None
     beside = pathlib.Path(__file__).resolve().parents[2] / "web" / "installed"
 
 
@@ -198,6 +200,11 @@ def processor_time():
     return 1000 * performance()["ProcessTime"]
 
 
+def address():
+    """The page's address, of which the driver may hear a little later."""
+    return run("return location.href")
+
+
 def text_of(name):
     return find(name).get_attribute("textContent").strip()
 
@@ -258,18 +265,24 @@ def give(field, name, body=None):
     return file
 
 
-def saved(name, button):
-    """The file that a button saves, once it has stopped growing."""
-    file, sizes = on.folder / name, [0]
-    file.unlink(missing_ok=True)
-    push(button)
+def begin_saving():
+    """Has what is saved from here on come into an empty folder."""
+    on.downloads = pathlib.Path(tempfile.mkdtemp(dir=on.folder))
+    on.page.execute_cdp_cmd("Browser.setDownloadBehavior", {"behavior": "allow", "downloadPath": str(on.downloads)})
+
+
+def saved(name, act):
+    """The file that a button or an act saves, once it has stopped growing. It comes into an empty folder, and so isn't
+    one of before; then it can be given."""
+    begin_saving()
+    file, sizes = on.downloads / name, [0]
+    act() if callable(act) else push(act)
 
     def is_whole():
         sizes.append(file.stat().st_size if file.exists() else 0)
         return 0 < sizes[-1] == sizes[-2]
 
-    wait_for(is_whole)
-    return file.read_bytes() if file.exists() else b""
+    return file.rename(on.folder / name).read_bytes() if wait_for(is_whole) else b""
 
 
 def table_saved():
@@ -468,12 +481,12 @@ def metrics(width, height, mobile=False, scale=1):
     """Makes the window of this size, or a phone's."""
     how = {"width": width, "height": height, "deviceScaleFactor": scale, "mobile": mobile}
     on.page.execute_cdp_cmd("Emulation.setDeviceMetricsOverride", how)
-    wait_for(lambda: run("return innerWidth === arguments[0] && innerHeight === arguments[1]", width, height),
-             seconds=5)
+    wait_for(lambda: run("return [innerWidth, innerHeight]") == [width, height])
 
 
 def usual_metrics():
     on.page.execute_cdp_cmd("Emulation.clearDeviceMetricsOverride", {})
+    wait_for(lambda: run("return innerWidth") == WIDTH)
 
 
 def media(**features):

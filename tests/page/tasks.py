@@ -3,9 +3,9 @@ stands, what GS1 data looks like, and that only where one learns a symbol is dam
 from tests.page.conduct import go, linked, verdict
 from tests.page.history import fields
 from tests.page.judge import line_of_text, written_in
-from tests.page.stage import (COLLECT, Keys, acting, agree, box, changed, choose, click, expect, find, grid, is_seen,
-                              learn, offset, on, press, push, put, reload, run, send, shown, soon, spelled, task,
-                              text_of, texts_of, unfold, usable, value_of, visit, write, written)
+from tests.page.stage import (COLLECT, Keys, acting, address, agree, box, changed, choose, click, expect, find, grid,
+                              is_seen, learn, offset, on, press, push, put, reload, run, send, shown, soon, spelled,
+                              task, text_of, texts_of, unfold, usable, value_of, visit, write, written)
 
 ELEMENTS = "(01)09506000134352(17)271231(10)AB-42"
 LINE = "\\F010950600013435217271231" + "10AB-42"
@@ -34,7 +34,7 @@ def tasks_are_linked():
         go(f"#{name}")
         expect(f"#{name} within the page", (seen_panes(), value_of("message")), ([name], f"at {name}"))
         expect(f"#{name} is what the address says",
-               (on.page.current_url.partition("#")[2].split("&")[0], fields().get("message")), (name, f"at {name}"))
+               (address().partition("#")[2].split("&")[0], fields().get("message")), (name, f"at {name}"))
         selected = run("return [...document.querySelectorAll('[role=tab]')].map((it) => it.ariaSelected)")
         expect(f"#{name}: its tab", selected, [str(each == name).lower() for each in ("read", "make", "learn")])
 
