@@ -3,8 +3,8 @@
 import { $ } from "./dom.mjs";
 
 const PREFIX = "mitsubadoor ", AGE = "age";
-/** @type {Record<string, number>} timers of what is to be kept soon */
-const waiting = {};
+/** @type {Map<string, number>} timers of what is to be kept soon */
+const waiting = new Map();
 const SOON = 300; // milliseconds
 let isForgotten = false; // what stands in the page goes with it
 
@@ -18,9 +18,10 @@ export function keep(name, text) {
 // Keeps what is said then, a little later, and once for many changes.
 /** @type {(name: string, say: () => string) => void} */
 export function keepSoon(name, say) {
-  clearTimeout(waiting[name]);
-  waiting[name] = setTimeout(() => keep(name, say()), SOON);
+  clearTimeout(waiting.get(name));
+  waiting.set(name, setTimeout(() => { waiting.delete(name); keep(name, say()); }, SOON));
 }
+export const isKeeping = () => waiting.size > 0;
 /** @type {(name: string) => string} */
 export function kept(name) {
   try { return localStorage.getItem(PREFIX + name) ?? ""; } catch { return ""; }

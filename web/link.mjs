@@ -5,7 +5,7 @@
 // was copied: so no message goes where the browser lists or syncs addresses.
 import { ASCII, MOST_TEXT, SHORTER, SMALLEST, limitIn } from "./common.mjs";
 import { field } from "./dom.mjs";
-import { ageNow, keep, kept } from "./kept.mjs";
+import { ageNow, isKeeping, keep, kept } from "./kept.mjs";
 import { partNow, partsNow } from "./parts.mjs";
 import { isSize, sizeChosen } from "./sizes.mjs";
 import { PANE_OF, TASKS, VALID, WORKING, damageOf, doubtsOf, isDamaged, panes, store } from "./state.mjs";
@@ -129,8 +129,8 @@ function writeLink() {
   }
   isNewEntry = false;
 }
-// Whether what is entered is kept: for the tests; and what is.
-export const isLinked = () => !timer && !followed && own === linkOfEntry();
+// Whether all that is entered is kept: for the tests; and what is.
+export const isLinked = () => !timer && !followed && own === linkOfEntry() && !isKeeping();
 export const linkKept = () => own;
 // A link to what is entered now, which stands in the address from here on, until something changes.
 export function linkNow() {

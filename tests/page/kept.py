@@ -5,8 +5,8 @@ from tests.page.contents import parts_of
 from tests.page.labels import answer, pages_of
 from tests.page.photographs import FOUND
 from tests.page.pictures import opened, scene
-from tests.page.stage import (COLLECT, choose, expect, find, grid, is_seen, on, press, push, put, reload, run, saved,
-                              shown, soon, started, text_of, texts_of, unfold, value_of, visit, wait_for, write,
+from tests.page.stage import (COLLECT, address, choose, expect, find, grid, is_seen, on, press, push, put, reload, run,
+                              saved, shown, soon, started, text_of, texts_of, unfold, value_of, visit, wait_for, write,
                               written)
 
 FIELDS = ["message", "lines-as", "messages", "stock", "millimetres", "paper-size", "label-width", "copies", "shape"]
@@ -38,7 +38,6 @@ def work_survives():
     press("#found-are button", 1)
     linked()
     listed, at_hand, before = texts_of(FOUND), grid(), state()
-    wait_for(lambda: all(f'"text": "{it}"' in run(KEPT) for it in messages))
     for name, go in (("a reload", reload), ("another visit", lambda: visit(is_new=False))):
         go()
         expect(f"{name}: what was read", (is_seen("pane-read"), shown()["says"], grid()), (True, "second", at_hand))
@@ -61,7 +60,6 @@ def parts_survive():
     for k in (0, 2):
         put("grid", grids[k])
     linked()
-    wait_for(lambda: "parts" in run("return Object.keys(localStorage).join()"))
     title = text_of("gathered-title")
     expect("parts that are read", title, "A message in 3 symbols: 2 of them read")
     reload()
@@ -73,27 +71,27 @@ def parts_survive():
 def address_is_bare():
     """No message stands in the address, whatever is entered, until a link is copied, and then until something
     changes."""
-    address = lambda: on.page.current_url.partition("#")[2]
+    fragment = lambda: address().partition("#")[2]
     write("a secret")
     linked()
-    expect("a message", address(), "make")
+    expect("a message", fragment(), "make")
     push("tab-read", "example-c40")
     linked()
-    expect("a grid", address(), "read")
+    expect("a grid", fragment(), "read")
     push("tab-learn", "to-limit")
     linked()
-    expect("damage", address(), "learn")
+    expect("damage", fragment(), "learn")
     push("tab-make")
     run(COLLECT)
     push("copy-link")
     soon("a link that is copied", lambda: "message=a+secret" in str(run("return copied")), True)
-    expect("it stands in the address", [on.page.current_url], run("return copied"))
+    expect("it stands in the address", [address()], run("return copied"))
     put("message", "another")
     linked()
-    expect("until something changes", address(), "make")
+    expect("until something changes", fragment(), "make")
     run("delete navigator.clipboard.writeText; location.hash = '#make&message=followed'")
     linked()
-    expect("a link that is followed", (shown()["says"], address()), ("followed", "make"))
+    expect("a link that is followed", (shown()["says"], fragment()), ("followed", "make"))
 
 
 def forgotten():
@@ -103,7 +101,7 @@ def forgotten():
     put("messages", "another secret")
     push("tab-read", "example-c40")
     linked()
-    wait_for(lambda: "another secret" in run(KEPT))
+    expect("it is kept", "another secret" in run(KEPT), True)
     run("globalThis.isOld = true; document.getElementById('forget').click()")
     wait_for(lambda: not run("return 'isOld' in globalThis"))
     started()

@@ -2,11 +2,12 @@
 import base64
 import json
 
+from tests.page.conduct import linked
 from tests.page.photographs import camera_on
 from tests.page.pictures import chunks, laid, opened, png, scene
 from tests.page.sights import LISTED, OUTLINED, beyond
 from tests.page.stage import (expect, find, give, on, press, push, run, saved, settle, shown, soon, table_saved,
-                              text_of, texts_of, wait_for, written)
+                              text_of, texts_of, written)
 from tests.page.bounds import drop
 
 ALL = "#found-are li"
@@ -72,7 +73,7 @@ def of_many_pixels():
     soon("48 million pixels", lambda: shown()["says"], "of a phone")
     corners = run("const { width, height } = document.getElementById('outlines').dataset; return [+width, +height]")
     expect("its size", [round(it / 100) for it in corners], [80, 60])
-    wait_for(lambda: run("return localStorage.getItem('mitsubadoor found')"))
+    linked()
     kept = json.loads(run("return localStorage.getItem('mitsubadoor found')"))
     expect("where it stands", [round(it / 50) for it in kept["symbols"][0]["corners"][0]], [80, 60])
     huge = bytearray(chunks(10, 10, (b"\0" + b"\xff" * 10) * 10))
