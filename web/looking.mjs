@@ -22,14 +22,15 @@ const LIKEST = " What looks most like one is outlined, and listed with the reaso
 const REMEDY = "Take it from nearer, straight from above, sharp and without glare; or enter its grid as text.";
 const SHOWN_LENGTH = 560; // of a picture, in pixels of style sheets, of which a screen has several
 const LONGER = { time: 30000, most: 400 }; // milliseconds, and symbols, if a picture is looked at longer
-/** @type {{ time?: number }} milliseconds for a picture, if not the usual ones: none by the clock where infinite */
+/** @type {{ time?: number }} milliseconds for a picture or a drawing, if not the usual ones: none by the clock where
+    infinite */
 export const limits = {};
 
 /** @type {(file: Blob) => boolean} */
 const isSvg = (file) => file.type === "image/svg+xml";
 /** @type {(file: Blob) => any} */
 function questionOf(file) {
-  if (isSvg(file)) return drawnSvg(file);
+  if (isSvg(file)) return drawnSvg(file, limits.time);
   return desks.readsFiles ? { file } : bitmapOf(file, true);
 }
 /** @type {(file: Blob, lane: string, how?: { kind?: string, more?: any, tell?: any }) => Promise<any>} */

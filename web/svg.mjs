@@ -79,21 +79,21 @@ function drawnAt(image, length) {
   pen.getImageData(0, 0, 1, 1); // else it may be drawn later
   return canvas;
 }
-// The image as large as it is, within bounds, or as can be drawn in time: each length takes four times as long as half
-// of it. Null if that is too small.
-/** @type {(image: HTMLImageElement) => any} */
-function drawnInTime(image) {
+// The image as large as it is, within bounds, or as can be drawn in so many milliseconds: each length takes four times
+// as long as half of it. Null if that is too small.
+/** @type {(image: HTMLImageElement, time: number) => any} */
+function drawnInTime(image, time) {
   const wanted = Math.min(Math.max(...sizeOf(image), LENGTHS[0]), LENGTHS[1]);
   for (let length = FIRST_LENGTH; ; length = Math.min(2 * length, wanted)) {
     const begun = performance.now(), canvas = drawnAt(image, length);
     if (length === wanted) return canvas;
-    if (4 * (performance.now() - begun) > MOST_TIME) return length < LENGTHS[0] ? null : canvas;
+    if (4 * (performance.now() - begun) > time) return length < LENGTHS[0] ? null : canvas;
   }
 }
 
 // A drawing as an ImageBitmap, or why it isn't drawn: { bitmap } or { why }.
-/** @type {(file: Blob) => Promise<{ why?: string, bitmap?: ImageBitmap }>} */
-export async function drawnSvg(file) {
+/** @type {(file: Blob, time?: number) => Promise<{ why?: string, bitmap?: ImageBitmap }>} */
+export async function drawnSvg(file, time = MOST_TIME) {
   if (file.size > MOST_OF_SVG) return { why: `The drawing has more than ${MOST_OF_SVG / 1e6} million bytes.` };
   const text = await file.text();
   if (/<!ENTITY/i.test(text)) return { why: "The drawing declares entities, which aren’t read here." };
@@ -101,7 +101,7 @@ export async function drawnSvg(file) {
   if (why) return { why };
   const counted = new XMLSerializer().serializeToString(drawing.documentElement);
   try {
-    const canvas = drawnInTime(await imageOf(new Blob([counted], { type: "image/svg+xml" })));
+    const canvas = drawnInTime(await imageOf(new Blob([counted], { type: "image/svg+xml" })), time);
     if (!canvas) return { why: `The drawing takes too long to draw. ${INSTEAD}` };
     return { bitmap: canvas.transferToImageBitmap() };
   } catch { return { why: "The file can’t be opened as a picture." }; }

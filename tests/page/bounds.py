@@ -4,9 +4,10 @@ import base64
 
 from tests.page.pictures import chunks, opened, png
 from tests.page.stage import (Keys, area_of, attribute, expect, find, give, grid, head, is_seen, on, processor_time,
-                              push, put, run, settle, shown, soon, text_of, unfold, value_of, wait_for, write, written)
+                              push, put, run, settle, shown, soon, take_time, text_of, unfold, value_of, wait_for,
+                              write, written)
 
-SOON = 6  # seconds of a processor that the page may take
+SOON, MOST_TIME = 6, 2500  # seconds of a processor that the page may take, and milliseconds for a drawing
 MANY_LINES = "#\n" * 130000
 
 
@@ -134,7 +135,9 @@ def drawings():
         taken = seconds_of(lambda: opened("drawing.svg", svg_of(small, inner)))
         expect(f"a drawing of {name}", (text_of("picture-hint"), shown()["state"], taken < SOON),
                (f"drawing.svg: {why}", "Nothing is read", True))
+    take_time(MOST_TIME)
     taken = seconds_of(lambda: opened("drawing.svg", svg_of(small, '<circle r="99"/>' * 20000)))
+    take_time()
     told = text_of("picture-hint").removeprefix("drawing.svg: ")
     # (a machine that draws them in time sees nothing but the last one)
     whys = ("The drawing takes too long to draw. Save it as PNG, and open that.", "The picture has only one colour.")
