@@ -1,9 +1,8 @@
 -- How many modules of a border may have the wrong colour.
-use Rattle.ecc200_calls.proofs.Names.{◌≡◌, ℕ, ◌<◌, ◌≤◌, List, Option, Some, None, Err, sym, subst, ◌∙◌}
-use Rattle.ecc200_calls.proofs.Names.{arith, All, Extent, ContentReadFault, SymbolView, WordsView}
-use Rattle.ecc200_calls.proofs.Names.{ContentReadResult, AreLight, faults_alike, none_lost, restored_alike}
-use Rattle.ecc200_calls.proofs.Names.{restored_back, restored_is_one, said_alike, IsLimit, IsSureLimit}
-use Rattle.ecc200_calls.proofs.Names.{LeavesCorrections}
+use Rattle.ecc200_calls.proofs.Names.{◌≡◌, ℕ, ◌<◌, ◌≤◌, List, Option, Some, None, Err, sym, subst, ◌∙◌, arith, All}
+use Rattle.ecc200_calls.proofs.Names.{Extent, ContentReadFault, SymbolView, WordsView, ContentReadResult, AreLight}
+use Rattle.ecc200_calls.proofs.Names.{faults_alike, none_lost, restored_alike, restored_back, restored_is_one}
+use Rattle.ecc200_calls.proofs.Names.{said_alike, IsLimit, LeavesCorrections}
 use Rattle.dm_symbol.specs.declared.BlockReading.{BlockReading}
 use Rattle.dm_symbol.specs.declared.Dealing.{Dealing}
 use Rattle.dm_symbol.specs.Doubt.{sure_fault_count}
@@ -11,7 +10,6 @@ use Rattle.dm_symbol.specs.declared.ContentFault.{ContentFault}
 use Rattle.dm_symbol.specs.declared.ContentReadFault.TheVariants as fault
 use Rattle.dm_symbol.specs.Restored as whole
 use Rattle.ecc200_calls.specs.declared.scan.BorderLimit.{BorderLimit}
-use Rattle.ecc200_calls.specs.declared.scan.BorderLimit.TheVariants.{Modules, Sure}
 
 -- A block leaves a correction unused.
 abbrev LeavesCorrection : BlockReading → Type 0
@@ -40,21 +38,16 @@ module _ (doubtful : SymbolView) (light : AreLight doubtful) (symbol : SymbolVie
     left = subst (All LeavesCorrection) (sym (said_alike doubtful light symbol l.dealing l.words l.codewords)) l.left;
   }
 
-  -- As many border faults are sure.
-  sure_alike : (limit : ℕ) → IsSureLimit extent symbol None limit → IsSureLimit extent symbol (Some doubtful) limit
-  sure_alike limit (IsSureLimit.few few e) =
-      IsSureLimit.few (rw (faults_alike doubtful light symbol) at few) e
-  sure_alike limit (IsSureLimit.sure more left e) =
-      IsSureLimit.sure (rw (faults_alike doubtful light symbol) at more) (left_alike left)
-      (e ∙ faults_alike doubtful light symbol)
-  sure_alike limit (IsSureLimit.unsure more none e) =
-      IsSureLimit.unsure (rw (faults_alike doubtful light symbol) at more) (λ left. none (left_back left)) e
-
   -- The border limit is the same.
   pub limit_alike : (asked : BorderLimit) (limit : ℕ) → IsLimit asked extent symbol None limit
       → IsLimit asked extent symbol (Some doubtful) limit
-  limit_alike (Modules number) limit is = is
-  limit_alike Sure limit is = sure_alike limit is
+  limit_alike asked limit (IsLimit.given is) = IsLimit.given is
+  limit_alike asked limit (IsLimit.few is few e) = IsLimit.few is (rw (faults_alike doubtful light symbol) at few) e
+  limit_alike asked limit (IsLimit.sure is more left e) =
+      IsLimit.sure is (rw (faults_alike doubtful light symbol) at more) (left_alike left)
+      (e ∙ faults_alike doubtful light symbol)
+  limit_alike asked limit (IsLimit.unsure is more none e) =
+      IsLimit.unsure is (rw (faults_alike doubtful light symbol) at more) (λ left. none (left_back left)) e
 
 -- ---- what is restored
 

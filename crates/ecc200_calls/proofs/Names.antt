@@ -4,8 +4,7 @@ pub use Rattle.dm_layout.proofs.symbols.Exported.{rest_more, row_inside, size_fa
 pub use Rattle.dm_layout.specs.symbols.Sizes.{IsSize, SizeEntry, area, codeword_count, entry_for, entry_with}
 pub use Rattle.dm_layout.specs.symbols.Sizes.{mapping_columns, mapping_rows, most_codewords, most_data, most_modules}
 pub use Rattle.dm_layout.specs.symbols.Sizes.{size_table, takes}
-pub use Rattle.dm_layout.specs.symbols.Symbols.{IsSymbol, SymbolView, is_dark_bit, is_dark_number}
-pub use Rattle.dm_layout.specs.symbols.Symbols.{is_dark_number as is_dark, module_at, rows_of}
+pub use Rattle.dm_layout.specs.symbols.Symbols.{IsSymbol, SymbolView, is_dark_bit, module_at, rows_of}
 pub use Rattle.dm_layout.specs.symbols.Words.{IsWords, WordsView, data_of}
 pub use Rattle.dm_place.proofs.Exported.{ArePlaces, MatrixFacts, all_are_places, length-places_in_order, matrix_facts}
 pub use Rattle.dm_place.proofs.Exported.{none_fixed, once_at_sides, one_bit, place_at}
@@ -44,7 +43,7 @@ pub use Rattle.ecc200_calls.specs.Modules.{AreDoubtful, AreModulesOf, IsGivenFau
 pub use Rattle.ecc200_calls.specs.Places.{ArePlacesOf, bit_place, border_place, fixed_place, modules, no_places}
 pub use Rattle.ecc200_calls.specs.Places.{no_size, nothing}
 pub use Rattle.ecc200_calls.specs.Readings.{IsReadResult, IsReadingGiven}
-pub use Rattle.ecc200_calls.specs.Scans.{IsLimit, IsSureLimit, LeavesCorrections, SoughtResult, usual_limit}
+pub use Rattle.ecc200_calls.specs.Scans.{IsLimit, LeavesCorrections, SoughtResult, usual_limit}
 pub use Rattle.ecc200_calls.specs.Symbols.{IsNormalGiven, IsNormalResult, ProfileResult, no_symbol, symbol_shown}
 pub use Rattle.ecc200_calls.specs.Writings.{IsContentGiven, IsHowFault, IsWriteResult, IsWritingGiven, symbol_given}
 pub use Rattle.ecc200_calls.specs.declared.mark.MarkNumbers.{MarkNumbers}
@@ -52,7 +51,8 @@ pub use Rattle.ecc200_calls.specs.declared.place_table.PlaceOut.{PlaceOut}
 pub use Rattle.ecc200_calls.specs.declared.symbol.SymbolOut.{SymbolOut}
 pub use Rattle.ecc200_calls.specs.inner.PlaceSteps.{structure_by, structure_place, with_bits}
 pub use Rattle.ecc200_calls.specs.inner.Restored.{HasRoomToSay, IsAtLimit, IsRestored, IsRestoredFor}
-pub use Rattle.ecc200_calls.specs.inner.UnpackedCells.{unpacked_cells, unpacked_row}
+pub use Rattle.ecc200_calls.specs.inner.UnpackedCells.{is_dark_number, is_dark_number as is_dark, unpacked_cells}
+pub use Rattle.ecc200_calls.specs.inner.UnpackedCells.{unpacked_row}
 pub use Rattle.std.proofs.Common.{Bool, Err, Fits, IsSome, List, None, Ok, Option, Result, Some, [], ap, arith}
 pub use Rattle.std.proofs.Common.{below_more, bit_and, bit_or, cond, drop, eqb, false, get_or, get_or-set_other}
 pub use Rattle.std.proofs.Common.{get_or-set_same, inl, inr, length, length-append, length-take, map, min, mul_comm}

@@ -8,7 +8,6 @@ use Rattle.dm_symbol.specs.declared.ContentNormalFault.{ContentNormalFault}
 use Rattle.dm_symbol.specs.declared.ContentNormalFault.TheVariants as of_content
 use Rattle.dm_symbol.specs.ContentNormal.{NormalContentResult}
 use Rattle.ecc200_calls.specs.Laws.{IsNormalMessageGiven, MessagesAreNormalised}
-use Rattle.ecc200_calls.proofs.ReadContents.{same_fault}
 
 module _ (extent : Extent) (profile : Profile) (symbol : SymbolView) (doubtful : Option SymbolView) (limit : ℕ)
     (before after : SymbolOut) where
@@ -55,7 +54,7 @@ module _ (profile : Profile) (symbol : SymbolView) (doubtful : Option SymbolView
       (rw same at h.too_long) (rw e at shown)
   message_by result (IsNormalOrFault.fault why read e) shown =
       let f = usual_fault symbol doubtful limit why read in
-      IsNormalMessageGiven.refused f.0 (rw f.1 at read) (rw (e, f.1, ← same_fault f.0) at shown)
+      IsNormalMessageGiven.refused f.0 (rw f.1 at read) (rw (e, f.1) at shown)
 
 -- In the extent `Usual` the normal symbol of a message is given, or that there is none, or a fault of messages.
 pub message_normalised : MessagesAreNormalised

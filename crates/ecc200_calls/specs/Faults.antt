@@ -1,14 +1,13 @@
 -- Faults as numbers: the codes of the header. The numbers 3 to 14 are those of the program's refusals.
 use Rattle.std.specs.Prelude.{ℕ}
-use Rattle.dm_symbol.specs.declared.WordFault.{WordFault}
 use Rattle.dm_symbol.specs.declared.WordFault.TheVariants as word
 use Rattle.dm_symbol.specs.declared.ReadFault.{ReadFault}
-use Rattle.dm_symbol.specs.declared.ReadFault.TheVariants as read
 use Rattle.dm_symbol.specs.declared.ContentFault.TheVariants as content
 use Rattle.dm_symbol.specs.declared.ContentReadFault.{ContentReadFault}
 use Rattle.dm_symbol.specs.declared.ContentReadFault.TheVariants as read_content
 use Rattle.dm_symbol.specs.declared.ContentNormalFault.{ContentNormalFault}
 use Rattle.dm_symbol.specs.declared.ContentNormalFault.TheVariants as normal_content
+use Rattle.dm_symbol.specs.Reading.{content_fault}
 use Rattle.ecc200_calls.specs.declared.fault.Fault.{Fault}
 
 -- A fault has three numbers, the first of which is a code of the header:
@@ -26,31 +25,25 @@ use Rattle.ecc200_calls.specs.declared.fault.Fault.{Fault}
 abbrev pub fault : ℕ → ℕ → ℕ → Fault
 fault code value place = record { code = code; value = value; place = place }
 
--- The data codewords spell no message. Places count them from 1.
-abbrev pub word_fault : WordFault → Fault
-word_fault (word.Reserved place) = fault 7 0 place
-word_fault (word.LeftOut value place) = fault 8 value place
-word_fault (word.UpperShift place) = fault 9 0 place
-word_fault (word.Triplet place) = fault 10 0 place
-word_fault (word.Value place) = fault 11 0 place
-word_fault (word.Length place) = fault 12 0 place
-word_fault (word.Unfinished place) = fault 13 0 place
-
--- A symbol is not read as a message: because of its borders, with the number of their wrong modules; because of a
--- block, with its number, from 0; or because of its data codewords.
-abbrev pub read_fault : ReadFault → Fault
-read_fault (read.Border count) = fault 5 count 0
-read_fault (read.Block block) = fault 6 0 block
-read_fault (read.Words why) = word_fault why
-
--- A symbol is not read as a content: for the same reasons as a message; because ECI has no designator; or because
--- structured append begins no head.
+-- A symbol is not read as a content: because of its borders, with the number of their wrong modules; because of a
+-- block, with its number, from 0; or because of its data codewords, which places count from 1: they spell no message,
+-- ECI has no designator, or structured append begins no head.
 abbrev pub read_content_fault : ContentReadFault → Fault
 read_content_fault (read_content.Border count) = fault 5 count 0
 read_content_fault (read_content.Block block) = fault 6 0 block
-read_content_fault (read_content.Words (content.Word why)) = word_fault why
+read_content_fault (read_content.Words (content.Word (word.Reserved place))) = fault 7 0 place
+read_content_fault (read_content.Words (content.Word (word.LeftOut value place))) = fault 8 value place
+read_content_fault (read_content.Words (content.Word (word.UpperShift place))) = fault 9 0 place
+read_content_fault (read_content.Words (content.Word (word.Triplet place))) = fault 10 0 place
+read_content_fault (read_content.Words (content.Word (word.Value place))) = fault 11 0 place
+read_content_fault (read_content.Words (content.Word (word.Length place))) = fault 12 0 place
+read_content_fault (read_content.Words (content.Word (word.Unfinished place))) = fault 13 0 place
 read_content_fault (read_content.Words (content.Designator place)) = fault 20 0 place
 read_content_fault (read_content.Words (content.Append place)) = fault 21 0 place
+
+-- A symbol is not read as a message: for the same reasons.
+abbrev pub read_fault : ReadFault → Fault
+read_fault why = read_content_fault (content_fault why)
 
 -- A symbol has no normal symbol.
 abbrev pub normal_content_fault : ContentNormalFault → Fault

@@ -1,9 +1,8 @@
 -- Modules as lists of numbers, one for each module, row by row from the top.
-use Rattle.std.specs.Prelude.{◌≡◌, ◌≢◌, ℕ, ◌*◌, Bool, if◌then◌else◌, List, [], map, flat_map, length, Option, Some}
-use Rattle.std.specs.Prelude.{None}
-use Rattle.std.specs.Prelude.{IsNone}
+use Rattle.std.specs.Prelude.{◌≡◌, ◌≢◌, ℕ, ◌*◌, Bool, not, nat_eq, if◌then◌else◌, List, [], map, flat_map, length}
+use Rattle.std.specs.Prelude.{Option, Some, None, IsNone}
 use Rattle.dm_layout.specs.symbols.Sizes.{entry_with}
-use Rattle.dm_layout.specs.symbols.Symbols.{SymbolView, is_dark_number, rows_of}
+use Rattle.dm_layout.specs.symbols.Symbols.{SymbolView, rows_of}
 use Rattle.ecc200_calls.specs.declared.fault.Fault.{Fault}
 use Rattle.ecc200_calls.specs.Faults.{fault}
 
@@ -19,7 +18,7 @@ modules_of symbol = flat_map (map module_of) symbol.rows
 pub record AreModulesOf (rows columns : ℕ) (modules : List ℕ) (symbol : SymbolView) : Type 0 where
   pub count : length modules ≡ rows * columns
   pub size : entry_with rows columns ≡ Some symbol.size
-  pub colours : symbol.rows ≡ rows_of rows columns (map is_dark_number modules)
+  pub colours : symbol.rows ≡ rows_of rows columns (map (λ number. not (nat_eq number 0)) modules)
 
 -- No module is doubtful where no numbers are given; where some are, those modules are whose number isn't 0.
 pub data AreDoubtful (rows columns : ℕ) (numbers : List ℕ) (doubtful : Option SymbolView) : Type 0 where

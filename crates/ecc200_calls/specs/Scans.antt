@@ -34,15 +34,15 @@ limit_of scan =
 
 -- The numbers ask for an extent and a border limit that there are; or it is said which of them there isn't, the extent
 -- first.
-abbrev pub sought_by : Scan → Option Extent → Option BorderLimit → Result Sought Fault
-sought_by scan (Some extent) (Some limit) =
-    Ok (record { rows = scan.rows; columns = scan.columns; extent = extent; limit = limit })
-sought_by scan (Some extent) None = Err (fault 24 scan.limit 0)
-sought_by scan None limit = Err (fault 17 scan.extent 0)
-
--- What the numbers ask for, or why that can't be.
 abbrev pub sought_of : Scan → Result Sought Fault
-sought_of scan = sought_by scan (extent_of scan.extent) (limit_of scan)
+sought_of scan =
+    elim (extent_of scan.extent) [
+      | None ↦ Err (fault 17 scan.extent 0)
+      | Some extent ↦ elim (limit_of scan) [
+        | None ↦ Err (fault 24 scan.limit 0)
+        | Some limit ↦ Ok (record { rows = scan.rows; columns = scan.columns; extent = extent; limit = limit })
+      ]
+    ]
 
 -- ---- the border limit
 
@@ -55,23 +55,21 @@ pub record LeavesCorrections (extent : Extent) (symbol : SymbolView) (doubtful :
   pub restored : AreRestored extent symbol doubtful dealing words codewords
   pub left : All (λ (block : BlockReading). 2 ≤ block.left) (readings_by dealing symbol.size doubtful words codewords)
 
--- As many border faults are sure: as many as usual where there are no more, and where there are more as many as there
--- are, if each block leaves a correction unused, or else as many as usual. That this shows the symbol to be one is a
--- rule of this project.
-pub data IsSureLimit (extent : Extent) (symbol : SymbolView) (doubtful : Option SymbolView) (limit : ℕ) : Type 0 where
-  few : sure_fault_count symbol doubtful ≤ usual_limit symbol.size.rows symbol.size.columns
-      → limit ≡ usual_limit symbol.size.rows symbol.size.columns → IsSureLimit extent symbol doubtful limit
-  sure : usual_limit symbol.size.rows symbol.size.columns < sure_fault_count symbol doubtful
+-- So many modules of the border of a symbol, read in an extent with these modules doubtful, may have the wrong colour:
+-- the number that is asked for; or, where as many as are sure may, as many as usual where there are no more, and where
+-- there are more as many as there are, if each block leaves a correction unused, or else as many as usual. That this
+-- shows the symbol to be one is a rule of this project.
+pub data IsLimit (asked : BorderLimit) (extent : Extent) (symbol : SymbolView) (doubtful : Option SymbolView)
+    (limit : ℕ) : Type 0 where
+  given : asked ≡ Modules limit → IsLimit asked extent symbol doubtful limit
+  few : asked ≡ Sure → sure_fault_count symbol doubtful ≤ usual_limit symbol.size.rows symbol.size.columns
+      → limit ≡ usual_limit symbol.size.rows symbol.size.columns → IsLimit asked extent symbol doubtful limit
+  sure : asked ≡ Sure → usual_limit symbol.size.rows symbol.size.columns < sure_fault_count symbol doubtful
       → LeavesCorrections extent symbol doubtful → limit ≡ sure_fault_count symbol doubtful
-      → IsSureLimit extent symbol doubtful limit
-  unsure : usual_limit symbol.size.rows symbol.size.columns < sure_fault_count symbol doubtful
+      → IsLimit asked extent symbol doubtful limit
+  unsure : asked ≡ Sure → usual_limit symbol.size.rows symbol.size.columns < sure_fault_count symbol doubtful
       → (LeavesCorrections extent symbol doubtful → ⊥) → limit ≡ usual_limit symbol.size.rows symbol.size.columns
-      → IsSureLimit extent symbol doubtful limit
-
--- So many modules of the border of a symbol, read in an extent with these modules doubtful, may have the wrong colour.
-abbrev pub IsLimit : BorderLimit → Extent → SymbolView → Option SymbolView → ℕ → Type 0
-IsLimit (Modules number) extent symbol doubtful limit = limit ≡ number
-IsLimit Sure extent symbol doubtful limit = IsSureLimit extent symbol doubtful limit
+      → IsLimit asked extent symbol doubtful limit
 
 -- ---- what is sought
 

@@ -1,7 +1,7 @@
 //! Faults as numbers.
 
 ghost use Rattle.std.specs.Prelude.{◌≡◌};
-ghost use Rattle.ecc200_calls.specs.Faults.{fault, read_content_fault, word_fault};
+ghost use Rattle.ecc200_calls.specs.Faults.{fault, read_content_fault};
 
 use dm_symbol::{ContentFault, ContentReadFault, WordFault};
 
@@ -110,7 +110,7 @@ impl Fault {
 
 /// Gives the fault of data codewords that spell no message.
 fn word_fault(why: WordFault) -> Fault
-    ensures { result ≡ word_fault why }
+    ensures { result ≡ read_content_fault (ContentReadFault.Words (ContentFault.Word why)) }
 {
     match why {
         WordFault::Reserved(place) => Fault::of(7, 0, place),

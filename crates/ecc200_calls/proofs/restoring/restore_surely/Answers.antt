@@ -1,4 +1,4 @@
-use Rattle.ecc200_calls.proofs.Names.{◌≡◌, refl, option_map, Block, IsSureLimit, usual_limit}
+use Rattle.ecc200_calls.proofs.Names.{◌≡◌, refl, option_map, Block, IsLimit, usual_limit}
 use Rattle.ecc200_calls.proofs.Limits.{few_of_fault}
 use Rattle.ecc200_calls.proofs.restoring.restore_surely.Goals as goal
 
@@ -14,7 +14,7 @@ returns-in-Err-Block-clause-restored g c =
     let lost = rw c.in-Err-Block.field-0-is at c.in-Err-Block.ensures.restored in
     record {
       limit = usual;
-      limit_is = IsSureLimit.few (rw is at (few_of_fault a.extent a.symbol.now doubt usual (Block c.in-Err-Block.index)
-          (λ count e. cc) lost)) is;
+      limit_is = IsLimit.few refl (rw is at (few_of_fault a.extent a.symbol.now doubt usual
+          (Block c.in-Err-Block.index) (λ count e. cc) lost)) is;
       restored_or = lost;
     }
