@@ -1,10 +1,10 @@
 -- No codewords that say a content are fewer than its least cost.
 use Rattle.dm_words.proofs.Names.{◌≡◌, ℕ, ◌+◌, ◌-◌, ◌*◌, ◌≤◌, List, [], ◌∷◌, ◌++◌, length, take, drop, sym, ap, subst}
-use Rattle.dm_words.proofs.Names.{◌∙◌, append_assoc, arith, length-append, Some, append-nil, length-drop}
+use Rattle.dm_words.proofs.Names.{◌∙◌, append_assoc, arith, length-append, Some, length-drop}
 use Rattle.dm_words.proofs.Names.{take-append-add, Extent, Wide, Item, Mark, Opening, eci_word, designator, head_words}
 use Rattle.dm_words.proofs.Names.{Piece, spelled, whats, AreJoined, ContentView, AreMarks, Said, Items, Number}
 use Rattle.dm_words.proofs.Names.{IsContentPart, part, mark, AreContentParts, said_items, said_marks, IsOpening, headed}
-use Rattle.dm_words.proofs.Names.{framed, plain, said_content, Says, BeginsFrame, mark_words, macro_text, macro_header}
+use Rattle.dm_words.proofs.Names.{framed, plain, said_content, Says, mark_words, macro_text, macro_header}
 use Rattle.dm_words.proofs.Names.{macro_trailer, FramesNoFnc1, IsPart, never, at_end, before_words, marked_cost}
 use Rattle.dm_words.proofs.Names.{IsLeastContentCost, Usual, refl, as_content, parts_cost, IsLeastCost, Spells}
 use Rattle.std.proofs.Math.Seq.{drop-append-add}
@@ -13,6 +13,7 @@ use Rattle.dm_words.proofs.CostsMet.{nothing_costs}
 use Rattle.dm_words.proofs.CostBounds.{part_no_fewer}
 use Rattle.dm_words.proofs.Designators.{designator_only}
 use Rattle.dm_words.proofs.Heads.{head_only}
+use Rattle.dm_words.proofs.Openings.{frame_macro}
 use Rattle.dm_words.proofs.MarkedCosts.{StartAt, designator_few, marked_most}
 use Rattle.dm_words.proofs.SaidContents.{said_in_order}
 use Rattle.dm_words.proofs.Names.{nat_tests}
@@ -134,24 +135,23 @@ module _ (extent : Extent) (words : List ℕ) (l : ContentView) (cost : ℕ)
   by_opening (headed head wide h is) =
       let e = content_by _ is in
       by_parts (head_words (Some head)) (ap (λ (k : ContentView). head_words k.head) (sym e))
-      (ap (λ (k : ContentView). k.items) e ∙ append-nil (said_items s.said)) (ap (λ (k : ContentView). k.marks) e)
+      (ap (λ (k : ContentView). k.items) e) (ap (λ (k : ContentView). k.marks) e)
       (omega (arith, ap length (head_only s.opened.first head h).1))
   by_opening (plain first no_head no_frame is) =
       let e = content_by _ is in
       by_parts [] (ap (λ (k : ContentView). head_words k.head) (sym e))
-      (ap (λ (k : ContentView). k.items) e ∙ append-nil (said_items s.said)) (ap (λ (k : ContentView). k.marks) e)
+      (ap (λ (k : ContentView). k.items) e) (ap (λ (k : ContentView). k.marks) e)
       (omega arith)
   by_opening (framed digit wide f is) =
       let e = content_by _ is in
       let text = said_items s.said in
-      let begins : BeginsFrame words =
-      record { first = s.opened.first; digit = digit; more = s.more; is_frame = f; whole = s.opened.whole } in
+      let m = frame_macro s.opened.first digit f in
       let items : l.items ≡ macro_text digit text = ap (λ (k : ContentView). k.items) e in
       let marks : l.marks ≡ said_marks 7 s.said = ap (λ (k : ContentView). k.marks) e in
       let in_order : AreMarks 7 (7 + length text) l.marks = rw marks (said_in_order _ 7 _ _ _ s.parts) in
       let c : cost ≤ 1 + said_cost Wide 7 s.said =
-      (rw marks at ((macros wide).framed f.word digit text f.is_macro (ap (λ (k : ContentView). k.head) e) items
-      (λ fnc1. no_fnc1 (digit, text, items, fnc1) begins) in_order)) in
+      (rw marks at ((macros wide).framed m.0 digit text m.1 (ap (λ (k : ContentView). k.head) e) items
+      (λ fnc1. no_fnc1 (digit, text, items, fnc1) s.opened.first s.more digit f s.opened.whole) in_order)) in
       let long : length text ≤ length l.items = omega (
         arith,
         ap length items,
@@ -162,8 +162,7 @@ module _ (extent : Extent) (words : List ℕ) (l : ContentView) (cost : ℕ)
       omega (
         arith,
         whole,
-        ap length f.whole,
-        length-append f.runs (f.word ∷ []),
+        m.2,
         parts_lower Wide 7 s.place s.more s.said (rw wide at s.parts) enough,
       )
 

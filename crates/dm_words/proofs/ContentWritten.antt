@@ -241,8 +241,8 @@ pub says_plain : (count : ℕ) (new : List ℕ) (items : List Item) (marks : Lis
 says_plain count new items marks w fits =
     let p = padded_parts count [] new 0 items marks w fits in
     let here : AreContentParts Wide 1 p.more p.said = p.parts in
-    says_padded _ _ _ 1 _ _ (opened_plain _ _ _ _ p.whole here) here (view_is None items (said_items p.said ++ []) _ _
-    (p.items_are ∙ sym (append-nil (said_items p.said))) p.marks_are) (λ digit e. absurd cc) p.plain p.pads_are
+    says_padded _ _ _ 1 _ _ (opened_plain _ _ _ _ p.whole here) here (view_is None items (said_items p.said) _ _
+    p.items_are p.marks_are) (λ digit e. absurd cc) p.plain p.pads_are
 
 -- Behind a head they say a content with it.
 says_headed : (count : ℕ) (new : List ℕ) (head : Head) (items : List Item) (marks : List Mark) → IsHead (Some head)
@@ -257,8 +257,8 @@ says_headed count new head items marks right w fits =
       is_opening = headed head refl (head_says head right) refl;
       whole = p.whole;
       place_is = omega arith;
-    }) p.parts (view_is (Some head) items (said_items p.said ++ []) _ _ (p.items_are ∙ sym
-    (append-nil (said_items p.said))) p.marks_are) (λ digit e. absurd cc) p.plain p.pads_are
+    }) p.parts (view_is (Some head) items (said_items p.said) _ _ p.items_are p.marks_are) (λ digit e. absurd cc)
+    p.plain p.pads_are
 
 -- Behind the codewords of a head, or none, they say a content with that.
 pub says_by_head : (count : ℕ) (base new : List ℕ) (head : Option Head) (items : List Item) (marks : List Mark)
@@ -278,7 +278,7 @@ says_framed count word digit base new items text marks k is one w none fits =
     says_padded (padded new count) (view_of None items marks) (Framed digit) 2 p.more p.said
     (record {
       first = word ∷ [];
-      is_opening = framed digit refl (record { runs = []; word = word; are_empty = tt; is_macro = k; whole = refl })
+      is_opening = framed digit refl k
           refl;
       whole = p.whole;
       place_is = refl;

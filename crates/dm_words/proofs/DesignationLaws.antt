@@ -8,6 +8,7 @@ use Rattle.dm_words.proofs.Names.{first_content_part, arith, nat_tests}
 use Rattle.dm_words.proofs.ContentParts.{content_part_complete, content_end_complete}
 use Rattle.dm_words.proofs.WholeContents.{opens_so}
 use Rattle.dm_words.proofs.ContentResults.{said_not_refused}
+use Rattle.dm_words.proofs.Openings.{said_behind}
 
 -- Where words are parts and an end in two ways, the designators of both are the same.
 same_designations : (before place : ℕ) (ps qs : List (Piece Said)) (words after rest : List ℕ)
@@ -93,4 +94,4 @@ numbers_of_marks words l found s are =
     ap numbers (one_list words found own are (of_content s.opening s.place s.more s.opened s.said s.parts refl))
     ∙ numbered (length s.opened.first) items s.parts.parts
     ∙ ap (λ (said : List Said). numbers (said_marks items said)) (sym s.parts.said_are)
-    ∙ ap (λ (k : ContentView). numbers k.marks) (sym s.content_is)
+    ∙ ap (λ (k : ContentView). numbers k.marks) (sym (s.content_is ∙ said_behind s.opening s.said))

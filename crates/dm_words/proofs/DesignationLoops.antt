@@ -162,7 +162,8 @@ pub of_fault : (words : List ℕ) (o : Opened) (found : List Mark) (why : Conten
     → HaveContentFault Wide (o.count + 1) (drop o.count words) why → found ≡ [] → AreDesignations words found
 of_fault words o found why e fault is =
     let a = opens words o (subst (OpeningJudged Wide words) e (openings.judged Wide words)) in
-    of_refused why (behind o.opening (o.count + 1) (drop o.count words) a.0 fault) is
+    of_refused why (behind o.opening (o.count + 1) (drop o.count words) a.0 fault.parts fault.after fault.joined
+    fault.whole fault.faulty) is
 
 -- ---- none
 

@@ -2,8 +2,7 @@
 use Rattle.dm_words.proofs.Names.{◌≡◌, ℕ, ◌+◌, ◌-◌, ◌*◌, ◌/◌, ◌%◌, ◌<◌, ◌≤◌, List, [], ◌∷◌, ◌++◌, length, refl}
 use Rattle.dm_words.proofs.Names.{subst, arith, Bool, true, false, cond, leb, ltb, ◌&&◌, Option, Some, None}
 use Rattle.dm_words.proofs.Names.{slice_get, ◌==◌, nat_tests, Designator, most_assigned, IsDesignator, one, two, three}
-use Rattle.dm_words.proofs.Names.{designator, first_designator}
-use Rattle.dm_words.specs.Designators.{BeginsNoDesignator}
+use Rattle.dm_words.proofs.Names.{designator, first_designator, ◌≢◌}
 use Rattle.dm_words.specs.inner.ContentScan.{is_further, two_words, three_words}
 
 -- A designator that is there is found.
@@ -35,7 +34,7 @@ judged_two a (b ∷ ws) low high = by_test (is_further b) refl where
       record {
         first = a ∷ b ∷ [];
         more = ws;
-        is_designator = two a b low high f refl refl;
+        is_designator = two a b low high f.0 f.1 refl refl;
         whole = refl;
         count = refl;
       }
@@ -60,7 +59,7 @@ judged_three a (b ∷ c ∷ ws) low high =
           record {
             first = a ∷ b ∷ c ∷ [];
             more = ws;
-            is_designator = three a b c low high (f.0, f.1) (f.2, f.3) refl refl m;
+            is_designator = three a b c low high f.0 f.1 f.2 f.3 refl refl m;
             whole = refl;
             count = refl;
           }
@@ -94,17 +93,20 @@ judged (a ∷ ws) = by_test (a == 0) (leb a 127) (leb a 191) (leb a 207) refl re
 pub found : (words : List ℕ) (d : Designator) → first_designator words ≡ Some d → Found words d
 found words d e = let P : Option Designator → Type 0 = λ o. Judged words o in subst P e (judged words)
 
+-- No designator begins the words.
+abbrev pub BeginsNoDesignator : List ℕ → Type 0
+BeginsNoDesignator words = (first more : List ℕ) (number : ℕ) → IsDesignator first number → words ≢ first ++ more
+
 -- Where none is found, there is none.
 pub none_begins : (words : List ℕ) → first_designator words ≡ None → BeginsNoDesignator words
-none_begins words e number more b = grind (arith, nat_tests, designator_complete, first_designator)
+none_begins words e first more number d whole = grind (arith, nat_tests, designator_complete, first_designator)
 
 -- Where there is none, none is found.
 pub none_found : (words : List ℕ) (o : Option Designator) → first_designator words ≡ o → BeginsNoDesignator words
     → first_designator words ≡ None
 none_found words None e none = e
 none_found words (Some d) e none =
-    (let f = found words d e in absurd
-    (none d.number f.more (record { first = f.first; is_designator = f.is_designator; whole = f.whole })))
+    (let f = found words d e in absurd (none f.first f.more d.number f.is_designator f.whole))
 
 -- The designator of a number says it.
 pub designator_says : (number : ℕ) → number ≤ most_assigned → IsDesignator (designator number) number
@@ -118,12 +120,12 @@ designator_says n le = by_test (ltb n 127) (ltb n 16383) refl refl where
       (let f : n < 127 = grind (arith, nat_tests) in one (n + 1) (omega arith) (omega arith) refl (omega arith))
   by_test false true eo et =
       let f : (127 ≤ n) × (n < 16383) = grind (arith, nat_tests) in
-      two (128 + (n - 127) / 254) (1 + (n - 127) % 254) (omega arith) (omega arith) (omega arith, omega arith) refl
+      two (128 + (n - 127) / 254) (1 + (n - 127) % 254) (omega arith) (omega arith) (omega arith) (omega arith) refl
       (omega arith)
   by_test false false eo et =
       let f : 16383 ≤ n = grind (arith, nat_tests) in
       three (192 + (n - 16383) / 64516) (1 + (n - 16383) / 254 % 254) (1 + (n - 16383) % 254) (omega arith)
-      (omega arith) (omega arith, omega arith) (omega arith, omega arith) refl (omega arith) le
+      (omega arith) (omega arith) (omega arith) (omega arith) (omega arith) refl (omega arith) le
 
 -- Nothing but the designator of a number says it.
 pub designator_only : (words : List ℕ) (number : ℕ) → IsDesignator words number → words ≡ designator number

@@ -1,17 +1,18 @@
 -- What the wide extent reads of what the usual one reads.
 use Rattle.dm_words.proofs.Names.{◌≡◌, ℕ, ◌+◌, List, [], ◌∷◌, ◌++◌, length, refl, sym, ap, subst, ◌∙◌, Extent, Usual}
-use Rattle.dm_words.proofs.Names.{Wide, Item, CodeSet, Opening, Plain, Piece, spelled, AreJoined, IsDropped, filler}
-use Rattle.dm_words.proofs.Names.{waiting, AreValues, IsPart, run, segment, edifact, ContentView, Said, IsContentPart}
+use Rattle.dm_words.proofs.Names.{Wide, Item, CodeSet, Opening, Plain, Piece, spelled, AreJoined, inl, inr}
+use Rattle.dm_words.proofs.Names.{AreValues, IsPart, run, segment, edifact, ContentView, Said, IsContentPart}
 use Rattle.dm_words.proofs.Names.{part, mark, AreContentParts, IsOpening, headed, framed, plain, said_content, Says}
-use Rattle.dm_words.proofs.Names.{BeginsFrame, arith, nat_tests}
+use Rattle.dm_words.proofs.Names.{BeginsNoFrame, arith, nat_tests}
 use Rattle.dm_words.specs.Parts.{ascii}
 use Rattle.dm_words.proofs.ContentParts.{not_wide}
+use Rattle.dm_words.proofs.Values.{IsDropped}
 use Rattle.dm_words.proofs.SpelledContents.{opened_plain, no_frame}
 
 -- What is dropped in the usual extent is dropped in the wide one.
 dropped_wider : (set : CodeSet) (values : List ℕ) → IsDropped Usual set values → IsDropped Wide set values
-dropped_wider set values (filler f) = filler f
-dropped_wider set values (waiting is w) = waiting refl w
+dropped_wider set values (inl f) = inl f
+dropped_wider set values (inr w) = inr (refl, w.1)
 
 -- A part in the usual extent is one in the wide extent.
 pub part_wider : (place : ℕ) (words after : List ℕ) (items : List Item) → IsPart Usual place words after items
@@ -94,7 +95,7 @@ usual_said_wide words l s =
     }
 
 -- And they begin with no macro.
-pub usual_no_frame : (words : List ℕ) (l : ContentView) → Says Usual words l → BeginsFrame words → ⊥
+pub usual_no_frame : (words : List ℕ) (l : ContentView) → Says Usual words l → BeginsNoFrame words
 usual_no_frame words l s = (let w = wide_parts words l s in no_frame words w.said w.parts)
 
 -- What they say in some extent they say in the wide one.

@@ -4,10 +4,10 @@ use Rattle.dm_words.proofs.Names.{subst, ◌∙◌, arith, length-append, Bool, 
 use Rattle.dm_words.proofs.Names.{take, append_assoc, drop-append_seam, ◌==◌, ◌&&◌, nat_tests, nil_from_length}
 use Rattle.dm_words.proofs.Names.{take_rest, Codeword, Wide, Item, Byte, Fnc1, Head, Opened, Opening, codeword_of}
 use Rattle.dm_words.proofs.Names.{head_words, Piece, spelled, AreJoined, Said, Items, IsContentPart, part, mark}
-use Rattle.dm_words.proofs.Names.{AreOpened, IsOpening, headed, framed, plain, AreContentParts, AreEmptyRuns, Says}
+use Rattle.dm_words.proofs.Names.{AreOpened, IsOpening, headed, framed, plain, AreContentParts, AreFrame, Says}
 use Rattle.dm_words.proofs.Names.{ContentView, opening_head, character, digits, fnc1, raised, IsLengthField, to_the_end}
 use Rattle.dm_words.proofs.Names.{short, long, written, one, two, three, IsEdifactEnd, few_left, first, second, third}
-use Rattle.dm_words.proofs.Names.{fourth, IsRun, IsRunEnd, unlatch, symbol_end, last_word, filler, nothing, IsPart, run}
+use Rattle.dm_words.proofs.Names.{fourth, IsRun, IsRunEnd, unlatch, symbol_end, last_word, inl, nothing, IsPart, run}
 use Rattle.dm_words.proofs.Names.{segment, edifact, IsEnd, Mark, IsFnc1Number, IsIdentifier, marks_number, part_by}
 use Rattle.dm_words.proofs.Names.{as_said, first_content_part, opened, fnc1_number, is_alone}
 use Rattle.dm_words.specs.declared.codeword.Codeword.TheVariants as codeword
@@ -191,8 +191,8 @@ alone_tests : (start w : ℕ) (after : List ℕ) (said : Said) → IsContentPart
     → is_alone (codeword_of w) (length after) ≡ true
 alone_tests start w after said (part items p is) = part_alone start w after items p
 alone_tests start w after said (mark d number wide (one f a b e is) whole all) = cc
-alone_tests start w after said (mark d number wide (two f g a b c e is) whole all) = cc
-alone_tests start w after said (mark d number wide (three f g h a b c k e is few) whole all) = cc
+alone_tests start w after said (mark d number wide (two f g a b c k e is) whole all) = cc
+alone_tests start w after said (mark d number wide (three f g h a b c k m n e is few) whole all) = cc
 
 -- A codeword that is alone, and no macro, is a part before FNC1.
 alone_part : (start w : ℕ) (after : List ℕ) (k : Option Codeword) → codeword_of w ≡ k
@@ -220,7 +220,7 @@ alone_part start w after (Some (codeword.Latch set)) e is other =
         spellings = [];
         each = tt;
         filler = [];
-        ended = filler (nothing refl);
+        ended = inl (nothing refl);
         whole = refl;
         items_are = refl;
       };
@@ -323,20 +323,22 @@ pub other_word : (w : ℕ) (k : Codeword) → codeword_of w ≡ Some k → (k �
 other_word w k h1 h2 h3 = grind (arith, nat_tests)
 
 -- Behind a macro FNC1 can stand second, and behind empty runs and a macro it is neither.
-by_frame : (words : List ℕ) (o : Opening) (start : ℕ) (more runs : List ℕ) (word digit : ℕ)
-    → AreOpened Wide words o start more
-    → start ≡ 1 + length (runs ++ word ∷ []) → AreEmptyRuns runs → codeword_of word ≡ Some (codeword.Macro digit)
-    → IsFnc1Number words 0 (fnc1_number ((runs ++ word ∷ []) ++ more))
-by_frame words o start more (l ∷ []) word digit there_is at empty k = absurd empty
-by_frame words o start more (l ∷ u ∷ runs) word digit there_is at empty k = by_test (l == 232) refl where
+by_frame : (words : List ℕ) (o : Opening) (start : ℕ) (more frame : List ℕ) (digit : ℕ)
+    → AreOpened Wide words o start more → start ≡ 1 + length frame → AreFrame frame digit
+    → IsFnc1Number words 0 (fnc1_number (frame ++ more))
+by_frame words o start more [] digit there_is at f = absurd f
+by_frame words o start more (l ∷ u ∷ frame) digit there_is at f = by_test (l == 232) refl where
   by_test : (t : Bool) → (l == 232) ≡ t
       → IsFnc1Number words 0 (cond t 2
-      (cond ((u == 232) && is_alone (codeword_of l) (length ((runs ++ word ∷ []) ++ more))) 3 1))
-  by_test true is = absurd (other_word l (codeword.Latch empty.0.0) empty.0.1 (λ same. cc) is)
+      (cond ((u == 232) && is_alone (codeword_of l) (length (frame ++ more))) 3 1))
+  by_test true is = absurd (other_word l (codeword.Latch f.0.0) f.0.1 (λ same. cc) is)
   by_test false is =
-      rw empty.1 (symbology.neither (not_before words o start 1 more there_is (omega (arith, at)))
+      rw f.1 (symbology.neither (not_before words o start 1 more there_is (omega (arith, at)))
       (not_before words o start 2 more there_is (omega (arith, at))) refl)
-by_frame words o start more [] word digit there_is at empty k = by_more more refl where
+by_frame words o start more (word ∷ []) digit there_is at f = by_more more refl where
+  k : codeword_of word ≡ Some (codeword.Macro digit)
+  k = f
+
   not_first : IsFnc1At words 1 → ⊥
   not_first = not_before words o start 1 more there_is (omega (arith, at))
 
@@ -397,38 +399,40 @@ parts_begin start more said are w digit ms e k = by_parts are.parts are.joined a
 pub identified : (words : List ℕ) (l : ContentView) → Says Wide words l
     → (length (head_words l.head) ≤ length words)
     × IsFnc1Number words (length (head_words l.head)) (fnc1_number (drop (length (head_words l.head)) words))
-identified words l said = rw (ap (λ (x : ContentView). x.head) said.content_is) (by_kind said.opened.is_opening) where
-  by_kind : IsOpening Wide said.opened.first said.more said.opening
-      → (length (head_words (opening_head said.opening)) ≤ length words)
-      × IsFnc1Number words (length (head_words (opening_head said.opening)))
-      (fnc1_number (drop (length (head_words (opening_head said.opening))) words))
-  by_kind (headed h wide s is) =
-      let only = (heads.head_only said.opened.first h s).1 in
-      let count : length said.opened.first ≡ length (head_words (Some h)) = ap length only in
-      let behind : drop (length (head_words (Some h))) words ≡ said.more =
-      cc (said.opened.whole, drop-append_seam said.opened.first said.more) in
-      rw is (
-        omega (arith, ap length said.opened.whole, length-append said.opened.first said.more, count),
-        rw behind (by_rest words said.opening said.place (length (head_words (Some h))) said.more said.opened
-            (omega (arith, said.opened.place_is, count)) (parts_begin said.place said.more said.said said.parts)),
-      )
-  by_kind (framed digit wide f is) =
-      let whole : (f.runs ++ f.word ∷ []) ++ said.more ≡ words = cc in
-      rw is (
-        omega arith,
-        subst (λ (x : List ℕ). IsFnc1Number words 0 (fnc1_number x)) whole
-            (by_frame words said.opening said.place said.more f.runs f.word digit said.opened
-            (said.opened.place_is ∙ ap (λ (x : List ℕ). 1 + length x) f.whole) f.are_empty f.is_macro),
-      )
-  by_kind (plain none no_head no_frame is) =
-      let whole : said.more ≡ words = sym (said.opened.whole ∙ ap (λ (x : List ℕ). x ++ said.more) none) in
-      rw is (
-        omega arith,
-        subst (λ (x : List ℕ). IsFnc1Number words 0 (fnc1_number x)) whole
-            (by_rest words said.opening said.place 0 said.more said.opened
-            (omega (arith, said.opened.place_is, ap length none)) (parts_begin said.place said.more said.said
-            said.parts)),
-      )
+identified words l said =
+    rw (ap (λ (x : ContentView). x.head) (said.content_is ∙ openings.said_behind said.opening said.said))
+    (by_kind said.opened.is_opening) where
+      by_kind : IsOpening Wide said.opened.first said.more said.opening
+          → (length (head_words (opening_head said.opening)) ≤ length words)
+          × IsFnc1Number words (length (head_words (opening_head said.opening)))
+          (fnc1_number (drop (length (head_words (opening_head said.opening))) words))
+      by_kind (headed h wide s is) =
+          let only = (heads.head_only said.opened.first h s).1 in
+          let count : length said.opened.first ≡ length (head_words (Some h)) = ap length only in
+          let behind : drop (length (head_words (Some h))) words ≡ said.more =
+          cc (said.opened.whole, drop-append_seam said.opened.first said.more) in
+          rw is (
+            omega (arith, ap length said.opened.whole, length-append said.opened.first said.more, count),
+            rw behind (by_rest words said.opening said.place (length (head_words (Some h))) said.more said.opened
+                (omega (arith, said.opened.place_is, count)) (parts_begin said.place said.more said.said said.parts)),
+          )
+      by_kind (framed digit wide f is) =
+          let whole : said.opened.first ++ said.more ≡ words = sym said.opened.whole in
+          rw is (
+            omega arith,
+            subst (λ (x : List ℕ). IsFnc1Number words 0 (fnc1_number x)) whole
+                (by_frame words said.opening said.place said.more said.opened.first digit said.opened
+                said.opened.place_is f),
+          )
+      by_kind (plain none no_head no_frame is) =
+          let whole : said.more ≡ words = sym (said.opened.whole ∙ ap (λ (x : List ℕ). x ++ said.more) none) in
+          rw is (
+            omega arith,
+            subst (λ (x : List ℕ). IsFnc1Number words 0 (fnc1_number x)) whole
+                (by_rest words said.opening said.place 0 said.more said.opened
+                (omega (arith, said.opened.place_is, ap length none)) (parts_begin said.place said.more said.said
+                said.parts)),
+          )
 
 -- A content's marks are none, or some, as their count says.
 pub no_marks : (marks : List Mark) → (length marks == 0) ≡ true → marks_number marks ≡ 0

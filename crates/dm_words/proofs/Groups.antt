@@ -5,7 +5,6 @@ use Rattle.dm_words.proofs.Names.{AllByRecursion, eqb-true, nat_tests, length-ap
 use Rattle.dm_words.proofs.Names.{Piece, spelled, gathered, IsGroup, edifact_byte, IsEdifactEnd, few_left, first}
 use Rattle.dm_words.proofs.Names.{second, third, fourth, IsEdifactRun, group_values, group_by, edifact_items}
 use Rattle.dm_words.specs.declared.codeword.Codeword.TheVariants as codeword
-use Rattle.dm_words.specs.Edifact.{unlatch_value}
 use Rattle.dm_words.specs.inner.Scan.Prefixes.{edifact_run}
 use Rattle.dm_words.proofs.Pairs.{IsBytes}
 use Rattle.dm_words.proofs.Runs.{cut_behind_prefix}
@@ -13,7 +12,7 @@ use Rattle.dm_words.proofs.Segments.{byte_items-length}
 
 -- No value is the unlatch.
 abbrev pub NoUnlatch : List ℕ → Type 0
-NoUnlatch values = AllByRecursion (λ v. v ≢ unlatch_value) values
+NoUnlatch values = AllByRecursion (λ v. v ≢ 31) values
 
 -- ---- what is found is right
 

@@ -1,8 +1,8 @@
 -- The head that is found first is the one of the definition, and what is written for a head says it.
 use Rattle.dm_words.proofs.Names.{◌≡◌, ℕ, ◌+◌, ◌-◌, ◌*◌, ◌≤◌, List, [], ◌∷◌, ◌++◌, length, refl, subst, arith}
 use Rattle.dm_words.proofs.Names.{Bool, true, false, cond, Option, Some, None, slice_get, ◌==◌, nat_tests, Head, IsHead}
-use Rattle.dm_words.proofs.Names.{SpellsHead, programming, appended, BeginsNoHead, head_words, append_by, first_head}
-use Rattle.dm_words.proofs.Names.{head_length}
+use Rattle.dm_words.proofs.Names.{SpellsHead, programming, appended, head_words, append_by, first_head}
+use Rattle.dm_words.proofs.Names.{head_length, ◌≢◌}
 use Rattle.dm_words.specs.declared.contents.head.Appended.{Appended}
 use Rattle.dm_words.specs.declared.contents.head.Head.TheVariants as head
 use Rattle.dm_words.specs.Heads.{IsAppended}
@@ -77,17 +77,20 @@ judged (w ∷ ws) = by_test (w == 234) (w == 233) refl refl where
 pub found : (words : List ℕ) (said : Head) → first_head words ≡ Some said → Found words said
 found words said e = let P : Option Head → Type 0 = λ o. Judged words o in subst P e (judged words)
 
+-- No head begins the words.
+abbrev pub BeginsNoHead : List ℕ → Type 0
+BeginsNoHead words = (first more : List ℕ) (said : Head) → SpellsHead first said → words ≢ first ++ more
+
 -- Where none is found, there is none.
 pub none_begins : (words : List ℕ) → first_head words ≡ None → BeginsNoHead words
-none_begins words e said more b = grind (arith, nat_tests, head_complete, first_head)
+none_begins words e first more said s whole = grind (arith, nat_tests, head_complete, first_head)
 
 -- Where there is none, none is found.
 pub none_found : (words : List ℕ) (o : Option Head) → first_head words ≡ o → BeginsNoHead words → first_head words
     ≡ None
 none_found words None e none = e
 none_found words (Some said) e none =
-    (let f = found words said e in absurd
-    (none said f.more (record { first = f.first; spells = f.spells; whole = f.whole })))
+    (let f = found words said e in absurd (none f.first f.more said f.spells f.whole))
 
 -- The codewords of a head say it.
 pub head_says : (said : Head) → IsHead (Some said) → SpellsHead (head_words (Some said)) said

@@ -3,13 +3,14 @@
 use Rattle.dm_words.proofs.Names.{◌≡◌, ◌≢◌, inl, inr, ℕ, zero, suc, ◌+◌, ◌-◌, ◌*◌, ◌/◌, ◌%◌, ◌<◌, ◌≤◌, List, [], ◌∷◌}
 use Rattle.dm_words.proofs.Names.{◌++◌, length, ap, arith, true, cond, ltb, AllByRecursion, nat_le, cases_lt}
 use Rattle.dm_words.proofs.Names.{nat_tests, length-append, Extent, Wide, Item, Byte, CodeSet, Piece, spelled}
-use Rattle.dm_words.proofs.Names.{gathered, whats, IsAsciiUnit, IsSpelling, nothing, lone_shift, IsDropped, AreValues}
+use Rattle.dm_words.proofs.Names.{gathered, whats, IsAsciiUnit, IsSpelling, nothing, lone_shift, AreValues}
 use Rattle.dm_words.proofs.Names.{IsRunEnd, IsRun, to_the_end, short, long, IsSegment, byte_items, IsEdifactRun}
 use Rattle.dm_words.proofs.Names.{IsPart, run, segment, edifact, set_values, unit_cost, leave}
 use Rattle.dm_words.specs.Parts.{ascii}
 use Rattle.dm_words.proofs.AsciiWords.{character_is, digits_are}
 use Rattle.dm_words.proofs.Runs.{pairs_room}
 use Rattle.dm_words.proofs.Segments.{length-written}
+use Rattle.dm_words.proofs.Values.{IsDropped}
 use Rattle.dm_words.proofs.SpellingCounts.{unit_few, spelling_count, held, Ascii, one, two, three, four}
 
 -- These are costs: `least` in ASCII; `owed`, in a run where some values stand whose codewords are owed too.

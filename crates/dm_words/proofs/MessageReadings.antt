@@ -34,7 +34,7 @@ usual_plain words l s = by_opening s.opened.is_opening where
       let all : l ≡ said_content Plain s.said = s.content_is ∙ ap (λ (o : Opening). said_content o s.said) is in
       all ∙ ap (λ (ms : List Mark). let k : ContentView = record {
         head = None;
-        items = said_items s.said ++ [];
+        items = said_items s.said;
         marks = ms;
       } in k) marks ∙ ap (λ (k : ContentView). as_content k.items) (sym all)
 
@@ -42,8 +42,8 @@ usual_plain words l s = by_opening s.opened.is_opening where
 pub usual_word : (words : List ℕ) (why : ContentFault) → IsRefused Usual words why
     → (of_word : WordFault) × (why ≡ fault.Word of_word)
 usual_word words why (contents.no_head more wide e none is) = absurd (not_wide wide)
-usual_word words why (contents.behind opening place more opened h) = by_fault h.faulty where
-  by_fault : IsContentFault Usual (place + length (spelled h.parts)) h.after why
+usual_word words why (contents.behind opening place more opened parts after joined whole faulty) = by_fault faulty where
+  by_fault : IsContentFault Usual (place + length (spelled parts)) after why
       → (of_word : WordFault) × (why ≡ fault.Word of_word)
   by_fault (contents.designator rest wide none e is) = absurd (not_wide wide)
   by_fault (contents.word f other there is) = (f, is)

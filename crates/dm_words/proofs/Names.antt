@@ -4,28 +4,25 @@ pub use Rattle.dm_layout.specs.declared.symbols.size.SizeChoice.{SizeChoice}
 pub use Rattle.dm_layout.specs.symbols.Sizes.{IsSize, SizeEntry, area}
 pub use Rattle.dm_words.specs.Ascii.{IsAscii, IsAsciiUnit, ascii, character, digit_pair, digits, fnc1, is_digit, raised}
 pub use Rattle.dm_words.specs.Ascii.{single}
-pub use Rattle.dm_words.specs.Base256.{AreBytes, IsLengthField, IsSegment, long, long_count, missing, no_second}
-pub use Rattle.dm_words.specs.Base256.{past_long, past_short, random_at, randomised, short, to_the_end, written}
-pub use Rattle.dm_words.specs.Base256.{wrong_second}
+pub use Rattle.dm_words.specs.Base256.{IsLengthField, IsSegment, long, randomised, short, to_the_end, written}
 pub use Rattle.dm_words.specs.CodeSets.{basic_of, shifted_of}
-pub use Rattle.dm_words.specs.Codewords.{codeword_of, unlatch_word}
+pub use Rattle.dm_words.specs.Codewords.{codeword_of}
 pub use Rattle.dm_words.specs.ContentExtents.{as_content}
 pub use Rattle.dm_words.specs.ContentForm.{ascii_with_marks, content_form, form_by, mark_words}
 pub use Rattle.dm_words.specs.ContentResults.{HasOneContentResult, IsContentResult}
-pub use Rattle.dm_words.specs.Contents.{AreContentParts, AreEmptyRuns, AreFrame, AreMarks, AreOpened, BeginNoEci}
-pub use Rattle.dm_words.specs.Contents.{BeginsFrame, BeginsWithHeadWord, ContentView, HaveContentFault, IsContent}
+pub use Rattle.dm_words.specs.Contents.{AreContentParts, AreFrame, AreMarks, AreOpened, ContentView, IsContent}
 pub use Rattle.dm_words.specs.Contents.{IsContentFault, IsContentPart, IsOpening, IsRefused, Items, Number, Said, Says}
-pub use Rattle.dm_words.specs.Contents.{behind, closing_items, eci_count, framed, headed, mark, no_head, opening_head}
-pub use Rattle.dm_words.specs.Contents.{opening_items, part, plain, said_content, said_items, said_marks, word}
+pub use Rattle.dm_words.specs.Contents.{behind, eci_count, framed, headed, mark, no_head}
+pub use Rattle.dm_words.specs.Contents.{part, plain, said_content, said_items, said_marks, word}
 pub use Rattle.dm_words.specs.Designations.{AreDesignations, designation, designations, of_content, of_refused}
 pub use Rattle.dm_words.specs.Designators.{IsDesignator, designator, eci_word, most_assigned, one, three, two}
 pub use Rattle.dm_words.specs.Edifact.{IsEdifactEnd, IsEdifactRun, IsGroup, edifact_byte, few_left, first, fourth}
 pub use Rattle.dm_words.specs.Edifact.{second, third}
-pub use Rattle.dm_words.specs.Faults.{always, left_out, macro_behind}
-pub use Rattle.dm_words.specs.Heads.{BeginsNoHead, IsHead, SpellsHead, appended, head_words, programming}
+pub use Rattle.dm_words.specs.Faults.{left_out, macro_behind}
+pub use Rattle.dm_words.specs.Heads.{IsHead, SpellsHead, appended, head_words, programming}
 pub use Rattle.dm_words.specs.Joined.{AreJoined, Piece, gathered, spelled, whats}
 pub use Rattle.dm_words.specs.Laws.{AreCodewords, AreRunValues, BeginsNoSpelling}
-pub use Rattle.dm_words.specs.Macros.{BeginsFnc1, FramesFnc1, macro_header, macro_text, macro_trailer}
+pub use Rattle.dm_words.specs.Macros.{BeginsFnc1, FramesFnc1, macro_text}
 pub use Rattle.dm_words.specs.Messages.{IsItem, IsMessage, byte_items, byte_of, most_data, most_spelled}
 pub use Rattle.dm_words.specs.NormalForm.{has_fnc1, length_numbers, normal_form, one_segment, shorter}
 pub use Rattle.dm_words.specs.Pads.{further_pads, padded, pads}
@@ -35,9 +32,9 @@ pub use Rattle.dm_words.specs.Runs.{IsPair, IsRun, IsRunEnd, last_word, symbol_e
 pub use Rattle.dm_words.specs.Smallest.{ArePads, IsPlainestContent, IsSmaller, IsSmallestContentResult, IsTaken}
 pub use Rattle.dm_words.specs.Smallest.{SaysThenPads}
 pub use Rattle.dm_words.specs.Spells.{Spells}
-pub use Rattle.dm_words.specs.Symbology.{IsFnc1Number, IsIdentifier, marks_number}
-pub use Rattle.dm_words.specs.Values.{AreValues, IsCharacter, IsDropped, IsFiller, IsRest, IsRunValue, IsShifted}
-pub use Rattle.dm_words.specs.Values.{IsSpelling, IsUpperShift, by_shift, filler, lone_shift, nothing, waiting}
+pub use Rattle.dm_words.specs.Symbology.{IsFnc1Number, IsIdentifier}
+pub use Rattle.dm_words.specs.Values.{AreValues, IsCharacter, IsFiller, IsRest, IsRunValue, IsShifted, IsSpelling}
+pub use Rattle.dm_words.specs.Values.{by_shift, lone_shift, nothing, waiting}
 pub use Rattle.dm_words.specs.declared.ascii.Unit.{Unit}
 pub use Rattle.dm_words.specs.declared.c40.pair.PairsEnd.{PairsEnd}
 pub use Rattle.dm_words.specs.declared.c40.set.Basic.{Basic}
@@ -69,10 +66,12 @@ pub use Rattle.dm_words.specs.declared.smallest.row.Costs.{Costs}
 pub use Rattle.dm_words.specs.declared.smallest.setting.Setting.{Setting}
 pub use Rattle.dm_words.specs.inner.ContentCosts.{AreSaid, IsLeastContentCost, behind_first, first_end, first_text}
 pub use Rattle.dm_words.specs.inner.ContentCosts.{marked_cost, view_of}
+pub use Rattle.dm_words.specs.inner.ContentScan.{BeginNoEci, BeginsNoFrame, BeginsNoHeadWord, closing_items}
+pub use Rattle.dm_words.specs.inner.ContentScan.{macro_header, macro_trailer, opening_head, opening_items}
 pub use Rattle.dm_words.specs.inner.ContentScan.{append_by, as_said, content_by, content_of, content_on, content_to}
 pub use Rattle.dm_words.specs.inner.ContentScan.{extended, first_content_part, first_designator, first_head}
 pub use Rattle.dm_words.specs.inner.ContentScan.{head_length, items_with, mark_by, moved, opened, opening_content}
-pub use Rattle.dm_words.specs.inner.ContentsAt.{IsContentAt}
+pub use Rattle.dm_words.specs.inner.ContentsAt.{HaveContentFault, IsContentAt}
 pub use Rattle.dm_words.specs.inner.CostLanes.{HasRow, least_of}
 pub use Rattle.dm_words.specs.inner.Costs.{Going, Groups, IsRightStep, IsWithin, Pairs, Row, at_end, before_words}
 pub use Rattle.dm_words.specs.inner.Costs.{begin_at, byte_before, cost_of, digit_first, going_from, going_over}
@@ -81,8 +80,9 @@ pub use Rattle.dm_words.specs.inner.Costs.{low_values, most_behind, never, no_gr
 pub use Rattle.dm_words.specs.inner.Costs.{or_leave_edifact, pair_first, parts_cost, rest_behind, row, row_pairs}
 pub use Rattle.dm_words.specs.inner.Costs.{segment_cost, set_values, shift_values, stay, stay_edifact, step_in, step_of}
 pub use Rattle.dm_words.specs.inner.Costs.{unit_cost, values_before, with_ascii}
-pub use Rattle.dm_words.specs.inner.Fnc1.{fnc1_number, is_alone}
+pub use Rattle.dm_words.specs.inner.Fnc1.{fnc1_number, is_alone, marks_number}
 pub use Rattle.dm_words.specs.inner.MarkedForms.{is_plain}
+pub use Rattle.dm_words.specs.inner.Scan.Prefixes.{AreBytes, long_count, random_at}
 pub use Rattle.dm_words.specs.inner.Scan.Prefixes.{edifact_items, end_length, first_pair, first_part, first_raised}
 pub use Rattle.dm_words.specs.inner.Scan.Prefixes.{first_spelling, group_by, group_values, is_one_word, items_in}
 pub use Rattle.dm_words.specs.inner.Scan.Prefixes.{pairs_in, part_by, run_fault, run_unless}

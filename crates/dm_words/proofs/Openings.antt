@@ -2,14 +2,17 @@
 use Rattle.dm_words.proofs.Names.{drop-cons, ◌≡◌, ℕ, zero, suc, ◌+◌, ◌≤◌, List, [], ◌∷◌, ◌++◌, length, drop, refl, sym}
 use Rattle.dm_words.proofs.Names.{ap, subst, ◌∙◌, arith, Bool, true, false, cond, Option, Some, None, inl, ◌==◌}
 use Rattle.dm_words.proofs.Names.{◌&&◌, slice_get, nat_tests, Codeword, CodeSet, Extent, Usual, Wide, Head, Opened}
-use Rattle.dm_words.proofs.Names.{Opening, Plain, codeword_of, unlatch_word, SpellsHead}
-use Rattle.dm_words.proofs.Names.{BeginsNoHead, AreEmptyRuns, AreFrame, BeginsFrame, BeginsWithHeadWord, IsOpening}
+use Rattle.dm_words.proofs.Names.{Opening, Plain, codeword_of, SpellsHead, programming, appended, inr}
+use Rattle.dm_words.proofs.Names.{append-nil, closing_items, opening_head, opening_items, said_content, said_items}
+use Rattle.dm_words.proofs.Names.{said_marks, Said, Headed, Framed}
+use Rattle.dm_words.proofs.Names.{AreFrame, BeginsNoFrame, BeginsNoHeadWord, IsOpening}
 use Rattle.dm_words.proofs.Names.{headed, framed, plain, is_one_word, append_by, first_head, head_length, moved, opened}
 use Rattle.std.proofs.lemmas.Option.{slice_get_within, get_or_from_slice_get}
 use Rattle.dm_words.specs.declared.codeword.Codeword.TheVariants as codeword
 use Rattle.dm_words.specs.declared.contents.opening.Frame.{Frame}
 use Rattle.dm_words.specs.inner.Scan.Prefixes.{digit_by, begins_with_one_word}
 use Rattle.dm_words.specs.inner.ContentScan.{is_latch, is_empty_run, frame_by, first_frame, begins_append, opened_by}
+use Rattle.dm_words.proofs.Heads.{BeginsNoHead}
 use Rattle.dm_words.proofs.Heads as heads
 use Rattle.dm_words.proofs.ContentParts.{not_wide}
 
@@ -38,7 +41,7 @@ one_macro : (w d : ℕ) (more : List ℕ) → digit_by (codeword_of w) ≡ Some 
 one_macro w d more e = record {
   first = w ∷ [];
   more = more;
-  is_frame = record { runs = []; word = w; are_empty = tt; is_macro = digit_is (codeword_of w) d e; whole = refl };
+  is_frame = digit_is (codeword_of w) d e;
   whole = refl;
   count = refl;
 }
@@ -49,21 +52,14 @@ latch_is (Some (codeword.Latch set)) e = (set, refl)
 latch_is k e = absurd cc
 
 -- An empty run before a frame makes a frame.
-one_more_run : (w n : ℕ) (more : List ℕ) (o : Option Frame) → is_latch (codeword_of w) ≡ true → n ≡ unlatch_word
+one_more_run : (w n : ℕ) (more : List ℕ) (o : Option Frame) → is_latch (codeword_of w) ≡ true → n ≡ 254
     → FrameJudged more o → FrameJudged (w ∷ n ∷ more) (moved 2 o)
 one_more_run w n more None latch is j = tt
 one_more_run w n more (Some f) latch is j =
-    let k = j.is_frame in
     record {
       first = w ∷ n ∷ j.first;
       more = j.more;
-      is_frame = record {
-        runs = w ∷ n ∷ k.runs;
-        word = k.word;
-        are_empty = (latch_is (codeword_of w) latch, is, k.are_empty);
-        is_macro = k.is_macro;
-        whole = ap (λ (r : List ℕ). w ∷ n ∷ r) k.whole;
-      };
+      is_frame = (latch_is (codeword_of w) latch, is, j.is_frame);
       whole = ap (λ (r : List ℕ). w ∷ n ∷ r) j.whole;
       count = omega (arith, j.count);
     }
@@ -74,10 +70,10 @@ unfolding first_frame
 frame_judged [] = tt
 frame_judged (w ∷ []) = grind (arith, nat_tests, digit_by, codeword_of, frame_by, one_macro)
 frame_judged (w ∷ n ∷ more) =
-    by_digit (digit_by (codeword_of w)) (is_latch (codeword_of w)) (n == unlatch_word) refl refl refl
+    by_digit (digit_by (codeword_of w)) (is_latch (codeword_of w)) (n == 254) refl refl refl
     (frame_judged more) where
       by_digit : (o : Option ℕ) (l u : Bool) → digit_by (codeword_of w) ≡ o → is_latch (codeword_of w) ≡ l
-          → (n == unlatch_word) ≡ u → FrameJudged more (first_frame more)
+          → (n == 254) ≡ u → FrameJudged more (first_frame more)
           → FrameJudged (w ∷ n ∷ more) (frame_by o (cond (l && u) (moved 2 (first_frame more)) None))
       by_digit (Some d) l u e el eu j = one_macro w d (n ∷ more) e
       by_digit None true true e el eu j = one_more_run w n more (first_frame more) el (grind (arith, nat_tests)) j
@@ -88,23 +84,47 @@ frame_judged (w ∷ n ∷ more) =
 frame_found : (words : List ℕ) (f : Frame) → first_frame words ≡ Some f → FrameFound words f
 frame_found words f e = let P : Option Frame → Type 0 = λ o. FrameJudged words o in subst P e (frame_judged words)
 
--- A macro behind empty runs is found.
-macro_complete : (runs more : List ℕ) (word digit : ℕ) → AreEmptyRuns runs → codeword_of word
-    ≡ Some (codeword.Macro digit)
-    → first_frame ((runs ++ word ∷ []) ++ more) ≡ Some (record { count = length (runs ++ word ∷ []); digit = digit })
+-- A macro is found.
+macro_complete : (w : ℕ) (more : List ℕ) (digit : ℕ) → codeword_of w ≡ Some (codeword.Macro digit)
+    → first_frame (w ∷ more) ≡ Some (record { count = 1; digit = digit })
 unfolding first_frame
-macro_complete [] [] word digit are k = rw k refl
-macro_complete [] (n ∷ more) word digit are k = rw k refl
-macro_complete (l ∷ []) more word digit are k = absurd are
-macro_complete (l ∷ u ∷ runs) more word digit are k =
-    grind (arith, nat_tests, macro_complete runs more word digit are.2 k)
+macro_complete w [] digit k = rw k refl
+macro_complete w (n ∷ more) digit k = rw k refl
 
 -- A frame that is there is found.
 frame_complete : (words more : List ℕ) (digit : ℕ) → AreFrame words digit → first_frame (words ++ more)
     ≡ Some (record { count = length words; digit = digit })
-frame_complete words more digit f = rw f.whole (macro_complete f.runs more f.word digit f.are_empty f.is_macro)
+unfolding first_frame
+frame_complete [] more digit f = absurd f
+frame_complete (w ∷ []) more digit f = macro_complete w more digit f
+frame_complete (l ∷ u ∷ words) more digit f = grind (arith, nat_tests, frame_complete words more digit f.2)
+
+-- A frame has a macro.
+pub frame_macro : (words : List ℕ) (digit : ℕ) → AreFrame words digit
+    → (w : ℕ) × (codeword_of w ≡ Some (codeword.Macro digit)) × (1 ≤ length words)
+frame_macro [] digit f = absurd f
+frame_macro (w ∷ []) digit f = (w, f, omega arith)
+frame_macro (l ∷ u ∷ words) digit f = (let m = frame_macro words digit f.2 in (m.0, m.1, omega arith))
+
+-- A frame of one codeword is a macro.
+pub frame_alone : (words : List ℕ) (digit : ℕ) → AreFrame words digit → length words ≡ 1
+    → (w : ℕ) × (codeword_of w ≡ Some (codeword.Macro digit)) × (words ≡ w ∷ [])
+frame_alone [] digit f one = absurd f
+frame_alone (w ∷ []) digit f one = (w, f, refl)
+frame_alone (l ∷ u ∷ words) digit f one = absurd (omega arith)
 
 -- ---- openings
+
+-- Behind an opening, parts say its head, and its items before and behind theirs.
+pub said_behind : (opening : Opening) (said : List Said) → said_content opening said
+    ≡ record {
+      head = opening_head opening;
+      items = opening_items opening ++ (said_items said ++ closing_items opening);
+      marks = said_marks (length (opening_items opening)) said;
+    }
+said_behind Plain said = rw (append-nil (said_items said)) refl
+said_behind (Headed head) said = rw (append-nil (said_items said)) refl
+said_behind (Framed digit) said = refl
 
 -- The words open with what was found.
 pub record OpeningFound (extent : Extent) (words : List ℕ) (f : Opened) : Type 0 where
@@ -132,14 +152,14 @@ append_is [] e = absurd cc
 append_is (w ∷ more) e = (let is : w ≡ 233 = grind (arith, nat_tests) in (more, ap (λ (x : ℕ). x ∷ more) is))
 
 -- Where no head is found and the words don't begin with structured append, they begin with none of its two codewords.
-no_head_word : (words : List ℕ) → first_head words ≡ None → begins_append words ≡ false → BeginsWithHeadWord words → ⊥
-no_head_word words h1 h2 h3 = grind (arith, nat_tests, begins_append)
+no_head_word : (words : List ℕ) → first_head words ≡ None → begins_append words ≡ false → BeginsNoHeadWord words
+no_head_word words h1 h2 word rest is whole = grind (arith, nat_tests, begins_append)
 
 -- Where no frame is found, the words begin with none.
-no_frame : (words : List ℕ) → first_frame words ≡ None → BeginsFrame words → ⊥
-no_frame words e b =
-    let c = frame_complete b.first b.more b.digit b.is_frame in
-    let w : first_frame words ≡ first_frame (b.first ++ b.more) = ap first_frame b.whole in
+no_frame : (words : List ℕ) → first_frame words ≡ None → BeginsNoFrame words
+no_frame words e frame rest digit f whole =
+    let c = frame_complete frame rest digit f in
+    let w : first_frame words ≡ first_frame (frame ++ rest) = ap first_frame whole in
     absurd cc
 
 -- What is found by the head and the frame is right.
@@ -197,38 +217,34 @@ opens_otherwise : (w : ℕ) (more : List ℕ) (k : Codeword) → codeword_of w �
 opens_otherwise w more k e not = grind (arith, nat_tests, codeword_of)
 
 -- A frame opens so.
-frame_opens : (runs more : List ℕ) (word digit : ℕ) → AreEmptyRuns runs → codeword_of word
-    ≡ Some (codeword.Macro digit) → OpensOtherwise ((runs ++ word ∷ []) ++ more)
-frame_opens runs more word digit h1 h2 = grind (arith, nat_tests, opens_otherwise)
+frame_opens : (words more : List ℕ) (digit : ℕ) → AreFrame words digit → OpensOtherwise (words ++ more)
+frame_opens [] more digit f = absurd f
+frame_opens (w ∷ []) more digit f = opens_otherwise w more (codeword.Macro digit) f (λ is. cc)
+frame_opens (l ∷ u ∷ words) more digit f =
+    opens_otherwise l (u ∷ (words ++ more)) (codeword.Latch f.0.0) f.0.1 (λ is. cc)
 
 -- A head has as many codewords as it takes.
 head_count : (words : List ℕ) (said : Head) → SpellsHead words said → head_length said ≡ length words
 head_count words said h1 = grind (arith, nat_tests)
 
 -- A head begins with one of its two codewords.
-head_begins : (words more : List ℕ) (said : Head) → SpellsHead words said → BeginsWithHeadWord (words ++ more)
-head_begins words more said h1 = grind (arith, nat_tests)
+head_begins : (words first more : List ℕ) (said : Head) → SpellsHead first said → words ≡ first ++ more
+    → BeginsNoHeadWord words → ⊥
+head_begins words first more said (programming e is) whole none =
+    none 234 more (inr refl) (whole ∙ ap (λ (l : List ℕ). l ++ more) e)
+head_begins words first more said (appended q s right i c e is) whole none =
+    none 233 (q ∷ s.file_high ∷ s.file_low ∷ more) (inl refl) (whole ∙ ap (λ (l : List ℕ). l ++ more) e)
 
 -- Words that begin with neither a head nor a frame open with nothing.
 plain_by : (words : List ℕ) (h : Option Head) (a : Bool) (f : Option Frame) → first_head words ≡ h
-    → begins_append words ≡ a → first_frame words ≡ f
-    → (BeginsWithHeadWord words → ⊥) → (BeginsFrame words → ⊥) → opened_by h a f
-    ≡ Some (record { opening = Plain; count = 0 })
+    → begins_append words ≡ a → first_frame words ≡ f → BeginsNoHeadWord words → BeginsNoFrame words
+    → opened_by h a f ≡ Some (record { opening = Plain; count = 0 })
 plain_by words (Some said) a f eh ea ef no_head no_frame_there =
-    let b = heads.found words said eh in
-    absurd (no_head (subst BeginsWithHeadWord (sym b.whole) (head_begins b.first b.more said b.spells)))
+    (let b = heads.found words said eh in absurd (head_begins words b.first b.more said b.spells b.whole no_head))
 plain_by words None true f eh ea ef no_head no_frame_there =
-    let b = append_is words ea in
-    absurd (no_head (record { word = 233; more = b.0; is_head_word = inl refl; whole = b.1 }))
+    (let b = append_is words ea in absurd (no_head 233 b.0 (inl refl) b.1))
 plain_by words None false (Some f) eh ea ef no_head no_frame_there =
-    let b = frame_found words f ef in
-    absurd (no_frame_there (record {
-      first = b.first;
-      digit = f.digit;
-      more = b.more;
-      is_frame = b.is_frame;
-      whole = b.whole;
-    }))
+    (let b = frame_found words f ef in absurd (no_frame_there b.first b.more f.digit b.is_frame b.whole))
 plain_by words None false None eh ea ef no_head no_frame_there = refl
 
 -- An opening that is there is found.
@@ -237,11 +253,12 @@ pub complete : (extent : Extent) (words more : List ℕ) (opening : Opening) →
 complete extent words more opening (headed said wide s is) =
     rw (wide, is, heads.head_complete words more said s, head_count words said s) refl
 complete extent words more opening (framed digit wide f is) =
-    let o = rw (sym f.whole) at (frame_opens f.runs more f.word digit f.are_empty f.is_macro) in
+    let o = frame_opens words more digit f in
     rw (wide, is, o.head, o.append, frame_complete words more digit f) refl
 complete Usual words more opening (plain e no_head no_frame_there is) = rw (e, is) refl
 complete Wide words more opening (plain e no_head no_frame_there is) =
-    grind (arith, plain_by, first_head, begins_append, first_frame)
+    rw (e, is) (plain_by more (first_head more) (begins_append more) (first_frame more) refl refl refl (no_head refl)
+    (no_frame_there refl))
 
 -- Where structured append begins no head, nothing opens.
 pub no_head_complete : (words more : List ℕ) → words ≡ 233 ∷ more → BeginsNoHead words → opened Wide words ≡ None

@@ -2,7 +2,7 @@
 use Rattle.dm_words.proofs.Names.{◌≡◌, ◌≢◌, ℕ, suc, ◌+◌, ◌*◌, ◌<◌, ◌≤◌, List, [], ◌∷◌, ◌++◌, length, take, drop, refl}
 use Rattle.dm_words.proofs.Names.{arith, Option, Some, None, length-take, Codeword, CodeSet, Extent, Usual, Wide}
 use Rattle.dm_words.proofs.Names.{Item, WordFault, codeword_of, IsAsciiUnit, character, digits, fnc1, raised, IsPart}
-use Rattle.dm_words.proofs.Names.{run, segment, edifact, IsEnd, pad, always, macro_behind, left_out, Step, Takes}
+use Rattle.dm_words.proofs.Names.{run, segment, edifact, IsEnd, pad, macro_behind, left_out, Step, Takes}
 use Rattle.dm_words.proofs.Names.{Stops, part_by, first_part, nat_tests}
 use Rattle.dm_words.specs.declared.codeword.Codeword.TheVariants as codeword
 use Rattle.dm_words.specs.declared.fault.WordFault.TheVariants as fault
@@ -15,7 +15,8 @@ use Rattle.dm_words.proofs.Pairs.{IsBytes, IsBytes-drop}
 use Rattle.dm_words.proofs.Runs.{RunJudged, run_judged, RunFound, run_complete, run_room}
 use Rattle.dm_words.proofs.Runs as runs
 use Rattle.dm_words.proofs.Groups.{edifact_judged, EdifactFound, edifact_complete, edifact_room}
-use Rattle.dm_words.proofs.Segments.{SegmentJudged, segment_judged, SegmentFound, segment_complete, bad_complete}
+use Rattle.dm_words.proofs.Segments.{SegmentJudged, segment_judged, SegmentFound, segment_complete, bad_sound}
+use Rattle.dm_words.proofs.Segments.{bad_complete}
 use Rattle.dm_words.proofs.Segments.{segment_room}
 
 -- The scan finds first a part, the end, or a fault.
@@ -41,12 +42,15 @@ from_run : (extent : Extent) (set : CodeSet) (place : ℕ) (words : List ℕ) (f
     → RunJudged extent set place words found → Judged extent place words found
 from_run extent set place words (Takes n items) j = (run set j.right, j.some, j.within)
 from_run extent set place words (Stops None) j = absurd j
-from_run extent set place words (Stops (Some f)) j = faulty_run set j
+from_run extent set place words (Stops (Some f)) j = faulty_run set j.0 j.1
 
 -- A segment is a part, and a faulty segment is a fault.
-from_segment : (extent : Extent) (place : ℕ) (words : List ℕ) (found : Found) → SegmentJudged place words found
-    → Judged extent place words found
-from_segment extent place words found h1 = grind (arith, nat_tests, segment, faulty_segment)
+from_segment : (extent : Extent) (place w : ℕ) (more : List ℕ) (found : Found) → codeword_of w ≡ Some codeword.Base256
+    → IsBytes more → segment_behind place (plain (place + 1) more) ≡ found → SegmentJudged place (w ∷ more) found
+    → Judged extent place (w ∷ more) found
+from_segment extent place w more (Takes n items) k fit e j = (segment j.right, j.some, j.within)
+from_segment extent place w more (Stops None) k fit e j = absurd j
+from_segment extent place w more (Stops (Some f)) k fit e j = faulty_segment (bad_sound place w more f k fit e) j
 
 -- What is found by the meaning of the first word is right.
 judged_by : (extent : Extent) (place w : ℕ) (more : List ℕ) (k : Option Codeword) → codeword_of w ≡ k → IsBytes more
@@ -63,13 +67,12 @@ judged_by extent place w more (Some codeword.Pad) k fit = pad w more k refl
 judged_by extent place w more (Some (codeword.Latch set)) k fit =
     from_run extent set place (w ∷ more) (run_behind extent set place more) (run_judged extent set place w more k fit)
 judged_by extent place w more (Some codeword.Base256) k fit =
-    from_segment extent place (w ∷ more) (segment_behind place (plain (place + 1) more))
-    (segment_judged place w more k fit)
-judged_by Usual place w more (Some codeword.Edifact) k fit = left_out w more (edifact_left_out refl k) refl refl
+    from_segment extent place w more _ k fit refl (segment_judged place w more k fit)
+judged_by Usual place w more (Some codeword.Edifact) k fit = edifact_left_out w more refl k refl refl
 judged_by Wide place w more (Some codeword.Edifact) k fit = let r =
     edifact_judged w more k fit in (edifact refl r.right, r.some, r.within)
-judged_by extent place w more (Some (codeword.Macro digit)) k fit = left_out w more (macro_behind digit k) refl refl
-judged_by extent place w more (Some codeword.LeftOut) k fit = left_out w more (always k) refl refl
+judged_by extent place w more (Some (codeword.Macro digit)) k fit = macro_behind w digit more k refl refl
+judged_by extent place w more (Some codeword.LeftOut) k fit = left_out w more k refl refl
 judged_by extent place w more None k fit = reserved w more k refl refl
 
 -- What is found first of the words is right.
@@ -150,10 +153,11 @@ no_character place k h1 = grind (arith, nat_tests)
 pub fault_complete : (extent : Extent) (place : ℕ) (words : List ℕ) (f : WordFault) → IsFault extent place words f
     → first_part extent place words ≡ Stops (Some f)
 fault_complete extent place words f (reserved w more k e is) = rw (e, k, is) refl
-fault_complete extent place words f (left_out w more (always k) e is) = rw (e, k, is) refl
-fault_complete extent place words f (left_out w more (macro_behind digit k) e is) = rw (e, k, is) refl
-fault_complete extent place words f (left_out w more (edifact_left_out usual k) e is) = rw (e, k, is, usual) refl
-fault_complete extent place words f (faulty_run set r) = run_found _ _ _ _ _ (runs.fault_complete _ _ _ _ f r)
+fault_complete extent place words f (left_out w more k e is) = rw (e, k, is) refl
+fault_complete extent place words f (macro_behind w digit more k e is) = rw (e, k, is) refl
+fault_complete extent place words f (edifact_left_out w more usual k e is) = rw (e, k, is, usual) refl
+fault_complete extent place words f (faulty_run set r is) =
+    run_found _ _ _ _ _ (runs.fault_complete _ _ _ _ f r is)
 fault_complete extent place words f (faulty_segment s is) = rw is (segment_found extent _ _ _ (bad_complete _ _ s))
 fault_complete extent place words f (unfinished w k e is) = rw (e, k, is) refl
 fault_complete extent place words f (upper_shift s w more k none_such e is) =

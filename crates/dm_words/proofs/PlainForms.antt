@@ -1,12 +1,12 @@
 -- What is written is plain, and has the identifier of the ASCII form.
 use Rattle.dm_words.proofs.Names.{◌≡◌, ℕ, zero, suc, ◌+◌, ◌-◌, ◌<◌, ◌≤◌, List, [], ◌∷◌, ◌++◌, length, refl, sym, ap}
-use Rattle.dm_words.proofs.Names.{subst, ◌∙◌, arith, Bool, true, false, cond, ltb, Option, Some, None, length-append}
+use Rattle.dm_words.proofs.Names.{subst, ◌∙◌, arith, Bool, true, false, cond, ltb, Option, Some, None}
 use Rattle.dm_words.proofs.Names.{append_assoc, take, drop, get_or, ◌&&◌, drop-append_seam, take-append-add}
-use Rattle.dm_words.proofs.Names.{append-nil, nil_from_length, take_rest, Extent, Wide, Item, Byte, Fnc1, Head, Mark}
+use Rattle.dm_words.proofs.Names.{append-nil, take_rest, Extent, Wide, Item, Byte, Fnc1, Head, Mark}
 use Rattle.dm_words.proofs.Names.{Opened, Opening, Framed, Ascii, ascii, single, is_digit, digit_pair, codeword_of}
 use Rattle.dm_words.proofs.Names.{head_words, Piece, spelled, whats, AreJoined, as_content, ascii_with_marks, form_by}
 use Rattle.dm_words.proofs.Names.{content_form, ContentView, Said, Items, Number, said_items, said_marks}
-use Rattle.dm_words.proofs.Names.{said_content, IsOpening, headed, framed, plain, AreOpened, BeginsFrame, Says}
+use Rattle.dm_words.proofs.Names.{said_content, IsOpening, headed, framed, plain, AreOpened, AreFrame, Says}
 use Rattle.dm_words.proofs.Names.{macro_text, BeginsFnc1, padded, FramesNoFnc1, IsPlainPart, IsPart, IsFnc1Number}
 use Rattle.dm_words.proofs.Names.{IsIdentifier, marks_number, fnc1_number, AreSaid, first_text, view_of, sign_words}
 use Rattle.dm_words.proofs.Names.{KeepsSign, IsMacroOf, inner_text, ArePartsWritten, IsContent, IsItem, IsMessage}
@@ -14,6 +14,7 @@ use Rattle.dm_words.proofs.Names.{recursion_from_All, nat_tests}
 use Rattle.dm_words.specs.declared.codeword.Codeword.TheVariants as codeword
 use Rattle.dm_words.specs.inner.Ways.{AreWritten}
 use Rattle.dm_words.proofs.Fnc1Places.{identified, one_number}
+use Rattle.dm_words.proofs.Openings.{frame_alone}
 use Rattle.dm_words.proofs.Heads as heads
 use Rattle.dm_words.proofs.ContentBounds.{starts}
 use Rattle.dm_words.proofs.ContentWritten.{SaysPlainly, nothing_said, text_said, form_said, says_plain, says_by_head}
@@ -65,19 +66,20 @@ one_opening x k l e f = (let h : k ≡ l = cc in ap (λ (q : Opened). q.opening)
 
 -- Words that begin with a frame are opened by it.
 frame_opens : (words : List ℕ) (opening : Opening) (place : ℕ) (more : List ℕ) → AreOpened Wide words opening place more
-    → (b : BeginsFrame words) → opening ≡ Framed b.digit
-frame_opens words opening place more opened b =
-    let there : AreOpened Wide words (Framed b.digit) (1 + length b.first) b.more = record {
-      first = b.first;
-      is_opening = framed b.digit refl b.is_frame refl;
-      whole = b.whole;
+    → (frame rest : List ℕ) (digit : ℕ) → AreFrame frame digit → words ≡ frame ++ rest → opening ≡ Framed digit
+frame_opens words opening place more opened frame rest digit f whole =
+    let there : AreOpened Wide words (Framed digit) (1 + length frame) rest = record {
+      first = frame;
+      is_opening = framed digit refl f refl;
+      whole = whole;
       place_is = refl;
     } in
     one_opening _ _ _ (opens_so _ _ _ _ _ opened).0 (opens_so _ _ _ _ _ there).0
 
 -- What is said plainly has no macro before FNC1.
 no_frame : (words : List ℕ) (l : ContentView) → SaysPlainly words l → FramesNoFnc1 words l.items
-no_frame words l p fnc1 b = p.no_fnc1 b.digit (frame_opens _ _ _ _ p.spells.opened b) fnc1
+no_frame words l p fnc1 frame rest digit f whole =
+    p.no_fnc1 digit (frame_opens _ _ _ _ p.spells.opened frame rest digit f whole) fnc1
 
 -- ---- the number
 
@@ -109,7 +111,7 @@ module _ (words : List ℕ) (l : ContentView) (p : SaysPlainly words l)
       behind_head (ap (λ (ws : List ℕ). drop (length ws) words) head
       ∙ ap (drop (length p.spells.opened.first)) p.spells.opened.whole
       ∙ drop-append_seam p.spells.opened.first p.spells.more)
-      (ap (λ (k : ContentView). k.items) e ∙ append-nil (said_items p.spells.said))
+      (ap (λ (k : ContentView). k.items) e)
       (ap (λ (k : ContentView). k.marks) e)
   number_by (plain none no_head no_frame is) =
       let e = content_by _ is in
@@ -117,7 +119,7 @@ module _ (words : List ℕ) (l : ContentView) (p : SaysPlainly words l)
       behind_head (ap (λ (ws : List ℕ). drop (length ws) words) head
       ∙ ap (drop (length p.spells.opened.first)) p.spells.opened.whole
       ∙ drop-append_seam p.spells.opened.first p.spells.more)
-      (ap (λ (k : ContentView). k.items) e ∙ append-nil (said_items p.spells.said))
+      (ap (λ (k : ContentView). k.items) e)
       (ap (λ (k : ContentView). k.marks) e)
   number_by (framed digit wide f is) =
       let e = content_by _ is in
@@ -126,9 +128,9 @@ module _ (words : List ℕ) (l : ContentView) (p : SaysPlainly words l)
       let head : l.head ≡ None = ap (λ (k : ContentView). k.head) e in
       let items : l.items ≡ macro_text digit (said_items s.said) = ap (λ (k : ContentView). k.items) e in
       let marks : l.marks ≡ said_marks 7 s.said = ap (λ (k : ContentView). k.marks) e in
-      let none : f.runs ≡ [] = nil_from_length f.runs
-      (omega (arith, p.macro_first digit is, ap length f.whole, length-append f.runs (f.word ∷ []))) in
-      let whole : words ≡ f.word ∷ (spelled parts.parts ++ parts.after) = cc in
+      let m = frame_alone s.opened.first digit f (omega (arith, p.macro_first digit is, s.opened.place_is)) in
+      let whole : words ≡ m.0 ∷ (spelled parts.parts ++ parts.after) = s.opened.whole
+      ∙ ap (λ (ws : List ℕ). ws ++ s.more) m.2 ∙ ap (λ (ws : List ℕ). m.0 ∷ ws) parts.whole in
       let no_fnc1 : BeginsFnc1 (first_said (whats parts.parts)) → ⊥ = λ b. p.no_fnc1 digit is (
         digit,
         said_items s.said,
@@ -137,7 +139,9 @@ module _ (words : List ℕ) (l : ContentView) (p : SaysPlainly words l)
       ) in
       let sign_none : sign_words text ≡ [] =
       cc (frame_sign digit (said_items s.said) (said_marks 7 s.said) (starts 7 7 s.said (omega arith))) in
-      cc (number_of_macro s.place f.word digit parts.parts parts.after f.is_macro p.plain parts.ended no_fnc1)
+      ap (λ (h : Option Head). fnc1_number (drop (length (head_words h)) words)) head ∙ ap fnc1_number whole
+      ∙ number_of_macro s.place m.0 digit parts.parts parts.after m.1 p.plain parts.ended no_fnc1
+      ∙ sym (ap fnc1_number sign_none)
 
   number : fnc1_number (drop (length (head_words l.head)) words) ≡ fnc1_number (sign_words text)
   number = number_by p.spells.opened.is_opening

@@ -3,7 +3,7 @@ use Rattle.dm_words.proofs.Names.{◌≡◌, ℕ, ◌+◌, ◌-◌, ◌*◌, ◌
 use Rattle.dm_words.proofs.Names.{add-one, append_assoc, refl, sym, ap, subst, ◌∙◌, arith, Some, None, true}
 use Rattle.dm_words.proofs.Names.{AllByRecursion, nat_tests, append-nil, length-append, length-take, length-drop}
 use Rattle.dm_words.proofs.Names.{take-suc, Item, Byte, CodeSet, Waiting, Extent, Usual, codeword_of}
-use Rattle.dm_words.proofs.Names.{Piece, spelled, gathered, whats, IsUpperShift, IsSpelling, filler, nothing, IsPair}
+use Rattle.dm_words.proofs.Names.{Piece, spelled, gathered, whats, IsShifted, IsSpelling, inl, nothing, IsPair}
 use Rattle.dm_words.proofs.Names.{IsRun, IsRunEnd, unlatch, symbol_end, last_word, run, is_basic, set_values}
 use Rattle.dm_words.proofs.Names.{part_values, ArePushed, IsItemPushed, is_empty, NoUnlatchFirst, IsPartWritten}
 use Rattle.dm_words.proofs.Pieces.{all-append, spelled-append, spelled-last, whats-append, gathered-append}
@@ -11,6 +11,7 @@ use Rattle.dm_words.proofs.Pieces.{gathered-last}
 use Rattle.dm_words.proofs.Runs.{pairs_room}
 use Rattle.dm_words.specs.inner.Written.{IsCharacterPushed, IsSmallPart, IsValuePushed}
 use Rattle.dm_words.specs.declared.codeword.Codeword.TheVariants as codeword
+use Rattle.dm_words.specs.declared.c40.set.Shifted.TheVariants as shifted
 use Rattle.dm_words.specs.Values.{character, raised}
 use Rattle.dm_words.specs.Plain as plainly
 
@@ -22,7 +23,8 @@ spelled_low set byte old new item none is p =
     subst (λ (v : List ℕ). IsSpelling set v item) (sym e) (character byte p.2 is)
 
 -- An Upper Shift is these values.
-upper : (set : CodeSet) (byte : ℕ) → 128 ≤ byte → 0 < set_values set (Byte byte) → IsUpperShift set (1 ∷ 30 ∷ [])
+upper : (set : CodeSet) (byte : ℕ) → 128 ≤ byte → 0 < set_values set (Byte byte)
+    → IsShifted set (1 ∷ 30 ∷ []) (Some shifted.UpperShift)
 upper set byte h1 h2 = grind (arith, nat_tests, is_basic)
 
 -- A byte of 128 or more is spelled.
@@ -179,7 +181,7 @@ run_whole set old words items r = (
         spellings = r.spellings;
         each = r.each;
         filler = [];
-        ended = filler (nothing refl);
+        ended = inl (nothing refl);
         whole = cc (append-nil (gathered r.pushed.pairs), r.pushed.values_are, append-nil (spelled r.spellings));
         items_are = r.items_are;
       };

@@ -3,7 +3,7 @@ use Rattle.dm_words.proofs.Names.{◌≡◌, ◌≢◌, ℕ, suc, ◌+◌, ◌*�
 use Rattle.dm_words.proofs.Names.{sym, ap, subst, ◌∙◌, append_assoc, arith, Option, Some, None, zero-add, inl, inr}
 use Rattle.dm_words.proofs.Names.{AllByRecursion, take_at, drop_at, length-append, CodeSet, PairsEnd, Extent, Usual}
 use Rattle.dm_words.proofs.Names.{Wide, Item, WordFault, codeword_of, Piece, spelled, gathered, whats, AreJoined}
-use Rattle.dm_words.proofs.Names.{IsSpelling, IsDropped, filler, waiting, AreValues, IsPair, IsRunEnd, unlatch}
+use Rattle.dm_words.proofs.Names.{IsSpelling, AreValues, IsPair, IsRunEnd, unlatch, Bool, true, false, ◌⊎◌}
 use Rattle.dm_words.proofs.Names.{symbol_end, last_word, IsRun, Step, Takes, Stops, Walked, flat, first_pair}
 use Rattle.dm_words.proofs.Names.{first_spelling, run_fault, end_length, run_unless, pairs_in, items_in}
 use Rattle.dm_words.specs.declared.codeword.Codeword.TheVariants as codeword
@@ -11,12 +11,12 @@ use Rattle.dm_words.specs.declared.c40.pair.PairsEnd.TheVariants as stop
 use Rattle.dm_words.specs.declared.c40.value.Rest.{Rest}
 use Rattle.dm_words.specs.declared.c40.value.Rest.TheVariants as left
 use Rattle.dm_words.specs.declared.fault.WordFault.TheVariants as fault
-use Rattle.dm_words.specs.RunFaults.{EndsRun, BeginsBadPair, StopsPairs, OpenRun, pair_place, IsRunFault, value}
-use Rattle.dm_words.specs.RunFaults.{upper_shift, triplet, unfinished, IsFaultyRun}
+use Rattle.dm_words.specs.RunFaults.{StopsPairs, run_end, bad_pair, OpenRun, pair_place, IsRunFault, value}
+use Rattle.dm_words.specs.RunFaults.{upper_shift, triplet, unfinished}
 use Rattle.dm_words.specs.inner.Scan.Prefixes.{run_behind}
 use Rattle.dm_words.proofs.Walks.{Walks, walks, walk-joined}
-use Rattle.dm_words.proofs.Values.{ItemRight, Anything, AreSmall, IsRestOf, item_sound, rest_sound, item_complete}
-use Rattle.dm_words.proofs.Values.{rest_complete}
+use Rattle.dm_words.proofs.Values.{ItemRight, Anything, AreSmall, IsRestOf, IsDropped, item_sound, rest_sound}
+use Rattle.dm_words.proofs.Values.{item_complete, rest_complete}
 use Rattle.dm_words.proofs.Pairs.{IsBytes, PairRight, IsStop, over, one_left, unlatched, bad, pair_sound, stop_sound}
 use Rattle.dm_words.proofs.Pairs.{pair_complete, stop_complete}
 
@@ -50,61 +50,40 @@ no_fault extent set rest place n values t left.WrongUpperShift r e = absurd cc
 no_fault extent set rest place n values stop.BadPair left.Waiting r e = absurd cc
 no_fault Usual set rest place n values stop.SymbolEnd left.Waiting r e = absurd cc
 no_fault Usual set rest place n values stop.Unlatch left.Waiting r e = absurd cc
-no_fault Wide set rest place n values stop.SymbolEnd left.Waiting r e = (waiting refl r, λ h. cc)
-no_fault Wide set rest place n values stop.Unlatch left.Waiting r e = (waiting refl r, λ h. cc)
+no_fault Wide set rest place n values stop.SymbolEnd left.Waiting r e = (inr (refl, r), λ h. cc)
+no_fault Wide set rest place n values stop.Unlatch left.Waiting r e = (inr (refl, r), λ h. cc)
 no_fault extent set rest place n values stop.BadPair left.Complete r e = absurd cc
-no_fault extent set rest place n values stop.SymbolEnd left.Complete r e = (filler r, λ h. cc)
-no_fault extent set rest place n values stop.Unlatch left.Complete r e = (filler r, λ h. cc)
+no_fault extent set rest place n values stop.SymbolEnd left.Complete r e = (inl r, λ h. cc)
+no_fault extent set rest place n values stop.Unlatch left.Complete r e = (inl r, λ h. cc)
+
+-- The pairs stop before a bad one.
+abbrev is_bad : PairsEnd → Bool
+is_bad stop.BadPair = true
+is_bad stop.SymbolEnd = false
+is_bad stop.Unlatch = false
 
 -- The pairs stop where they end or before a bad one.
-stops_pairs : (words : List ℕ) (t : PairsEnd) → IsStop words t → StopsPairs words
-stops_pairs words t (over e is) = inl (record { end = []; after = []; ended = symbol_end refl refl; whole = e })
-stops_pairs words t (one_left w ne e is) =
-    inl (record { end = []; after = w ∷ []; ended = last_word w ne refl refl; whole = e })
-stops_pairs words t (unlatched more e is) =
-    inl (record { end = 254 ∷ []; after = more; ended = unlatch refl; whole = e })
-stops_pairs words t (bad v w more ne h e is) =
-    inr (record { high = v; low = w; more = more; no_unlatch = ne; is_bad = h; whole = e })
-
--- The pairs stop before a bad pair.
-bad_pair : (words : List ℕ) (t : PairsEnd) → IsStop words t → t ≡ stop.BadPair → BeginsBadPair words
-bad_pair words t (over e is) b = absurd cc
-bad_pair words t (one_left w ne e is) b = absurd cc
-bad_pair words t (unlatched more e is) b = absurd cc
-bad_pair words t (bad v w more ne h e is) b =
-    record { high = v; low = w; more = more; no_unlatch = ne; is_bad = h; whole = e }
-
--- The pairs stop before no bad pair, so the run ends.
-no_bad_pair : (words : List ℕ) (t : PairsEnd) → IsStop words t → t ≢ stop.BadPair → EndsRun words
-no_bad_pair words t (over e is) b = record { end = []; after = []; ended = symbol_end refl refl; whole = e }
-no_bad_pair words t (one_left w ne e is) b =
-    record { end = []; after = w ∷ []; ended = last_word w ne refl refl; whole = e }
-no_bad_pair words t (unlatched more e is) b = record { end = 254 ∷ []; after = more; ended = unlatch refl; whole = e }
-no_bad_pair words t (bad v w more ne h e is) b = absurd (b is)
-
--- A run is known, as far as its pairs go, by these five parts.
-abbrev open_run : ℕ → ℕ → List ℕ → ℕ → List ℕ → OpenRun
-open_run place pair_words others spelled_values rest =
-    record { place = place; pair_words = pair_words; others = others; spelled_values = spelled_values; rest = rest }
+stops_pairs : (words : List ℕ) (t : PairsEnd) → IsStop words t → StopsPairs (is_bad t) words
+stops_pairs words t (over e is) = rw is (run_end [] [] refl (symbol_end refl refl) e)
+stops_pairs words t (one_left w ne e is) = rw is (run_end [] (w ∷ []) refl (last_word w ne refl refl) e)
+stops_pairs words t (unlatched more e is) = rw is (run_end (254 ∷ []) more refl (unlatch refl) e)
+stops_pairs words t (bad v w more ne h e is) = rw is (bad_pair v w more refl ne h e)
 
 -- The fault that is found is the one that is there.
-fault_is : (extent : Extent) (set : CodeSet) (place n values : ℕ) (t : PairsEnd) (k : Rest) (rest words : List ℕ)
-    (f : WordFault) → IsRestOf set rest k → IsStop words t → run_fault extent place n t values k ≡ Some f
-    → IsRunFault extent set (open_run place n words values rest) f
-fault_is extent set place n values t (left.Meaningless i) rest words f r s e = value i r (stops_pairs words t s) cc
-fault_is extent set place n values t left.WrongUpperShift rest words f r s e = upper_shift r (stops_pairs words t s) cc
-fault_is extent set place n values stop.BadPair left.Waiting rest words f r s e =
-    triplet (inr r) (bad_pair words _ s refl) cc
-fault_is extent set place n values stop.BadPair left.Complete rest words f r s e =
-    triplet (inl r) (bad_pair words _ s refl) cc
-fault_is Usual set place n values stop.SymbolEnd left.Waiting rest words f r s e =
-    unfinished refl r (no_bad_pair words _ s (λ h. cc)) cc
-fault_is Usual set place n values stop.Unlatch left.Waiting rest words f r s e =
-    unfinished refl r (no_bad_pair words _ s (λ h. cc)) cc
-fault_is Wide set place n values stop.SymbolEnd left.Waiting rest words f r s e = absurd cc
-fault_is Wide set place n values stop.Unlatch left.Waiting rest words f r s e = absurd cc
-fault_is extent set place n values stop.SymbolEnd left.Complete rest words f r s e = absurd cc
-fault_is extent set place n values stop.Unlatch left.Complete rest words f r s e = absurd cc
+fault_is : (extent : Extent) (set : CodeSet) (place : ℕ) (words : List ℕ) (run : OpenRun set words) (t : PairsEnd)
+    (k : Rest) (f : WordFault) → IsRestOf set run.rest k → run.bad ≡ is_bad t
+    → run_fault extent place (length (spelled run.pairs)) t (length (spelled run.spellings)) k ≡ Some f
+    → IsRunFault extent set place words run f
+fault_is extent set place words run t (left.Meaningless i) f r s e = value i r cc
+fault_is extent set place words run t left.WrongUpperShift f r s e = upper_shift r cc
+fault_is extent set place words run stop.BadPair left.Waiting f r s e = triplet (inr r) s cc
+fault_is extent set place words run stop.BadPair left.Complete f r s e = triplet (inl r) s cc
+fault_is Usual set place words run stop.SymbolEnd left.Waiting f r s e = unfinished refl r s cc
+fault_is Usual set place words run stop.Unlatch left.Waiting f r s e = unfinished refl r s cc
+fault_is Wide set place words run stop.SymbolEnd left.Waiting f r s e = absurd cc
+fault_is Wide set place words run stop.Unlatch left.Waiting f r s e = absurd cc
+fault_is extent set place words run stop.SymbolEnd left.Complete f r s e = absurd cc
+fault_is extent set place words run stop.Unlatch left.Complete f r s e = absurd cc
 
 -- The back of a list of values below 40 is such a list.
 run_values-right : (a b : List ℕ) → AreSmall (a ++ b) → AreSmall b
@@ -130,11 +109,15 @@ pub record RunTakes (extent : Extent) (set : CodeSet) (words : List ℕ) (n : �
   pub some : 0 < n
   pub within : n ≤ length words
 
+-- The words from a latch on are an open run with this fault.
+abbrev pub FaultyRun : Extent → CodeSet → ℕ → List ℕ → WordFault → Type 0
+FaultyRun extent set place words f = (run : OpenRun set words) × IsRunFault extent set place words run f
+
 -- What is found behind a latch is a run, or a faulty run with the fault that is found.
 abbrev pub RunJudged : Extent → CodeSet → ℕ → List ℕ → Step (List Item) (Option WordFault) → Type 0
 RunJudged extent set place words (Takes n items) = RunTakes extent set words n items
 RunJudged extent set place words (Stops None) = ⊥
-RunJudged extent set place words (Stops (Some f)) = IsFaultyRun extent set place words f
+RunJudged extent set place words (Stops (Some f)) = FaultyRun extent set place words f
 
 -- A list that is a prefix and a rest is cut behind the prefix.
 pub cut_behind_prefix : (words prefix back : List ℕ) (n : ℕ) → words ≡ prefix ++ back → n ≡ length prefix
@@ -230,20 +213,22 @@ module _ (extent : Extent) (set : CodeSet) (place w : ℕ) (is_latch : codeword_
       let b : vw.place ≡ length (spelled v.pieces) = omega (arith, v.place_is) in
       let same : run_fault extent place (length (spelled p.pieces)) pw.why (length (spelled v.pieces)) vw.why
       ≡ Some f = rw (← a, ← b) e in
+      let run : OpenRun set (w ∷ words) =
       record {
         latch = w;
         is_latch = is_latch;
         pairs = p.pieces;
         each = pairs_right;
         others = p.after;
+        bad = is_bad pw.why;
+        stopped = stops_pairs p.after pw.why stop_is;
         whole = ap (λ (r : List ℕ). w ∷ r) p.whole;
         spellings = v.pieces;
         each_spelling = spellings_right;
         rest = v.after;
         values = joined_values;
-        is_fault = fault_is extent set place (length (spelled p.pieces)) (length (spelled v.pieces)) _ vw.why v.after _
-            f rest_is stop_is same;
-      }
+      } in
+      (run, fault_is extent set place _ run pw.why vw.why f rest_is refl same)
 
 -- A run that is found is a run, and a faulty one is faulty.
 pub run_judged : (extent : Extent) (set : CodeSet) (place w : ℕ) (words : List ℕ) → codeword_of w
@@ -314,14 +299,14 @@ record DroppedFound (extent : Extent) (set : CodeSet) (place n values : ℕ) (re
 -- What is dropped is found.
 dropped_found : (extent : Extent) (set : CodeSet) (place n values : ℕ) (rest : List ℕ) (t : PairsEnd)
     → IsDropped extent set rest → t ≢ stop.BadPair → DroppedFound extent set place n values rest t
-dropped_found extent set place n values rest stop.Unlatch (filler f) ne =
+dropped_found extent set place n values rest stop.Unlatch (inl f) ne =
     record { kind = left.Complete; left_so = f; no_fault_there = refl }
-dropped_found extent set place n values rest stop.SymbolEnd (filler f) ne =
+dropped_found extent set place n values rest stop.SymbolEnd (inl f) ne =
     record { kind = left.Complete; left_so = f; no_fault_there = refl }
-dropped_found extent set place n values rest stop.Unlatch (waiting is w) ne =
-    record { kind = left.Waiting; left_so = w; no_fault_there = rw is refl }
-dropped_found extent set place n values rest stop.SymbolEnd (waiting is w) ne =
-    record { kind = left.Waiting; left_so = w; no_fault_there = rw is refl }
+dropped_found extent set place n values rest stop.Unlatch (inr w) ne =
+    record { kind = left.Waiting; left_so = w.1; no_fault_there = rw w.0 refl }
+dropped_found extent set place n values rest stop.SymbolEnd (inr w) ne =
+    record { kind = left.Waiting; left_so = w.1; no_fault_there = rw w.0 refl }
 dropped_found extent set place n values rest stop.BadPair d ne = absurd (ne refl)
 
 -- A run that is a prefix is found.
@@ -348,80 +333,93 @@ run_complete extent set place words after items r =
     )
 
 -- A fault of a run tells how its pairs end and what the rest of its values is.
-record FaultFound (extent : Extent) (set : CodeSet) (place values : ℕ) (rest : List ℕ) (n : ℕ) (words : List ℕ)
+record FaultFound (extent : Extent) (set : CodeSet) (place : ℕ) (words : List ℕ) (run : OpenRun set words)
     (f : WordFault) : Type 0 where
   end : PairsEnd
   kind : Rest
-  stops : IsStop words end
-  left_so : IsRestOf set rest kind
-  found : run_fault extent place n end values kind ≡ Some f
+  stops : IsStop run.others end
+  left_so : IsRestOf set run.rest kind
+  found :
+      run_fault extent place (length (spelled run.pairs)) end (length (spelled run.spellings)) kind ≡ Some f
+
+-- Where the pairs stop otherwise, no bad pair follows.
+no_bad : (t : PairsEnd) → t ≢ stop.BadPair → is_bad t ≡ false
+no_bad stop.BadPair ne = absurd (ne refl)
+no_bad stop.SymbolEnd ne = refl
+no_bad stop.Unlatch ne = refl
 
 -- The pairs stop in one of the ways that the scan knows.
-stop_of : (words : List ℕ) → StopsPairs words → (t : PairsEnd) × IsStop words t
-stop_of words (inl e) = let f = end_found e.end e.after e.ended in (f.0, rw e.whole f.1)
-stop_of words (inr b) = (stop.BadPair, bad b.high b.low b.more b.no_unlatch b.is_bad b.whole refl)
+stop_of : (is : Bool) (words : List ℕ) → StopsPairs is words → (t : PairsEnd) × IsStop words t × (is_bad t ≡ is)
+stop_of is words (run_end end after is_not ended whole) =
+    (let f = end_found end after ended in (f.0, rw whole f.1, no_bad f.0 f.3 ∙ sym is_not))
+stop_of is words (bad_pair high low more so ne h whole) = (stop.BadPair, bad high low more ne h whole refl, sym so)
+
+-- The pairs of an open run stop in one of these ways.
+stop_in : (set : CodeSet) (words : List ℕ) (run : OpenRun set words)
+    → (t : PairsEnd) × IsStop run.others t × (is_bad t ≡ run.bad)
+stop_in set words run = stop_of run.bad run.others run.stopped
+
+-- A bad pair is the fault where the rest is dropped.
+fault_triplet : (extent : Extent) (place n values : ℕ) (t : PairsEnd) (k : Rest)
+    → (k ≡ left.Complete) ⊎ (k ≡ left.Waiting) → is_bad t ≡ true
+    → run_fault extent place n t values k ≡ Some (fault.Triplet (place + 1 + n))
+fault_triplet extent place n values stop.BadPair k (inl is) b = rw is refl
+fault_triplet extent place n values stop.BadPair k (inr is) b = rw is refl
+fault_triplet extent place n values stop.SymbolEnd k is b = absurd cc
+fault_triplet extent place n values stop.Unlatch k is b = absurd cc
 
 -- An Upper Shift that waits is the fault in the usual extent, where no bad pair follows.
-fault_unfinished : (extent : Extent) (place n values : ℕ) (t : PairsEnd) → extent ≡ Usual → t ≢ stop.BadPair
+fault_unfinished : (extent : Extent) (place n values : ℕ) (t : PairsEnd) → extent ≡ Usual → is_bad t ≡ false
     → run_fault extent place n t values left.Waiting ≡ Some (fault.Unfinished (pair_place place (values + 1)))
-fault_unfinished extent place n values t h1 h2 = grind arith
+fault_unfinished extent place n values stop.BadPair h1 h2 = absurd cc
+fault_unfinished extent place n values stop.SymbolEnd h1 h2 = rw h1 refl
+fault_unfinished extent place n values stop.Unlatch h1 h2 = rw h1 refl
 
 -- The fault that is there tells how the pairs stop and what the rest is.
-fault_found : (extent : Extent) (set : CodeSet) (place values : ℕ) (rest : List ℕ) (n : ℕ) (words : List ℕ)
-    (f : WordFault) → IsRunFault extent set (open_run place n words values rest) f
-    → FaultFound extent set place values rest n words f
-fault_found extent set place values rest n words f (value index b st is) = let t =
-    stop_of words st in record {
-      end = t.0;
-      kind = left.Meaningless index;
-      stops = t.1;
-      left_so = b;
-      found =
-          ap Some (sym is);
-    }
-fault_found extent set place values rest n words f (upper_shift b st is) = let t =
-    stop_of words st in record {
-      end = t.0;
-      kind = left.WrongUpperShift;
-      stops = t.1;
-      left_so = b;
-      found =
-          ap Some (sym is);
-    }
-fault_found extent set place values rest n words f (triplet (inl r) b is) =
+fault_found : (extent : Extent) (set : CodeSet) (place : ℕ) (words : List ℕ) (run : OpenRun set words) (f : WordFault)
+    → IsRunFault extent set place words run f → FaultFound extent set place words run f
+fault_found extent set place words run f (value index b is) =
+    let t = stop_in set words run in
+    record { end = t.0; kind = left.Meaningless index; stops = t.1; left_so = b; found = ap Some (sym is) }
+fault_found extent set place words run f (upper_shift b is) =
+    let t = stop_in set words run in
+    record { end = t.0; kind = left.WrongUpperShift; stops = t.1; left_so = b; found = ap Some (sym is) }
+fault_found extent set place words run f (triplet (inl r) b is) =
+    let t = stop_in set words run in
     record {
-      end = stop.BadPair;
+      end = t.0;
       kind = left.Complete;
-      stops =
-          bad b.high b.low b.more b.no_unlatch b.is_bad b.whole refl;
+      stops = t.1;
       left_so = r;
-      found = ap Some (sym is);
+      found = fault_triplet extent place (length (spelled run.pairs)) (length (spelled run.spellings)) t.0
+          left.Complete (inl refl) (t.2 ∙ b) ∙ ap Some (sym is);
     }
-fault_found extent set place values rest n words f (triplet (inr r) b is) =
-    record {
-      end = stop.BadPair;
-      kind = left.Waiting;
-      stops =
-          bad b.high b.low b.more b.no_unlatch b.is_bad b.whole refl;
-      left_so = r;
-      found = ap Some (sym is);
-    }
-fault_found extent set place values rest n words f (unfinished usual r e is) =
-    let t = end_found e.end e.after e.ended in
+fault_found extent set place words run f (triplet (inr r) b is) =
+    let t = stop_in set words run in
     record {
       end = t.0;
       kind = left.Waiting;
-      stops = rw e.whole t.1;
+      stops = t.1;
       left_so = r;
-      found = cc (fault_unfinished extent place n values t.0 usual t.3);
+      found = fault_triplet extent place (length (spelled run.pairs)) (length (spelled run.spellings)) t.0
+          left.Waiting (inr refl) (t.2 ∙ b) ∙ ap Some (sym is);
+    }
+fault_found extent set place words run f (unfinished usual r b is) =
+    let t = stop_in set words run in
+    record {
+      end = t.0;
+      kind = left.Waiting;
+      stops = t.1;
+      left_so = r;
+      found = fault_unfinished extent place (length (spelled run.pairs)) (length (spelled run.spellings)) t.0
+          usual (t.2 ∙ b) ∙ ap Some (sym is);
     }
 
 -- A faulty run that is a prefix is found.
 pub fault_complete : (extent : Extent) (set : CodeSet) (place : ℕ) (words : List ℕ) (f : WordFault)
-    → IsFaultyRun extent set place words f → RunFound extent set place words (Stops (Some f))
-fault_complete extent set place words f r =
-    let g = fault_found extent set place (length (spelled r.spellings)) r.rest (length (spelled r.pairs)) r.others f
-    r.is_fault in
+    (r : OpenRun set words) → IsRunFault extent set place words r f → RunFound extent set place words (Stops (Some f))
+fault_complete extent set place words f r is =
+    let g = fault_found extent set place words r f is in
     record {
       latch = r.latch;
       others = spelled r.pairs ++ r.others;

@@ -7,6 +7,7 @@ use Rattle.dm_words.proofs.Names.{IsOpening, opening_items, closing_items, Says,
 use Rattle.dm_words.proofs.ContentLoops.{designator_some}
 use Rattle.dm_words.proofs.ContentParts.{not_wide}
 use Rattle.dm_words.proofs.Parts.{room_of}
+use Rattle.dm_words.proofs.Openings.{said_behind}
 
 -- A part, before parts that say few, says few with them.
 few_with : (extent : Extent) (place before : ℕ) (words after : List ℕ) (s : Said) (ss : List Said) (count : ℕ)
@@ -55,12 +56,12 @@ said_counts extent words l s =
     ∙ length-append (spelled s.parts.parts) s.parts.after) in
     let items : length l.items ≡ length (opening_items o)
     + (length (said_items (whats s.parts.parts)) + length (closing_items o)) =
-    ap (λ (x : ContentView). length x.items) s.content_is
+    ap (λ (x : ContentView). length x.items) (s.content_is ∙ said_behind o s.said)
     ∙ length-append (opening_items o) (said_items s.said ++ closing_items o)
     ∙ ap (λ n. length (opening_items o) + n) (length-append (said_items s.said) (closing_items o)
     ∙ ap (λ (ss : List Said). length (said_items ss) + length (closing_items o)) s.parts.said_are) in
     let marks : length l.marks ≡ length (said_marks (length (opening_items o)) (whats s.parts.parts)) =
-    ap (λ (x : ContentView). length x.marks) s.content_is
+    ap (λ (x : ContentView). length x.marks) (s.content_is ∙ said_behind o s.said)
     ∙ ap (λ (ss : List Said). length (said_marks (length (opening_items o)) ss)) s.parts.said_are in (
       opening_few extent s.opened.first s.more o (length words) (length l.items) s.opened.is_opening
           (omega (arith, long)) (omega (arith, items, few.0, long)),

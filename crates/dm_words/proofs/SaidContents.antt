@@ -4,12 +4,13 @@ use Rattle.dm_words.proofs.Names.{AllByRecursion, All-from_recursion, Extent, Op
 use Rattle.dm_words.proofs.Names.{AreJoined, most_assigned, IsDesignator, IsHead, ContentView, AreMarks, IsContent}
 use Rattle.dm_words.proofs.Names.{Said, Items, Number, IsContentPart, part, mark, said_items, said_marks, IsOpening}
 use Rattle.dm_words.proofs.Names.{opening_head, opening_items, closing_items, said_content, AreContentParts, Says}
-use Rattle.dm_words.proofs.Names.{nat_tests}
+use Rattle.dm_words.proofs.Names.{framed, headed, nat_tests, plain}
 use Rattle.dm_words.proofs.AsciiWords.{AreItems}
 use Rattle.dm_words.proofs.ItemBytes.{part_items, macro_byte}
 use Rattle.dm_words.proofs.Heads.{head_only}
 use Rattle.dm_words.proofs.Marks.{more_items, lower}
 use Rattle.dm_words.proofs.Pieces.{all-append}
+use Rattle.dm_words.proofs.Openings.{said_behind, frame_macro}
 
 -- What a part says is right: bytes of 0 to 255, or the number of an assignment.
 abbrev IsRight : Said → Type 0
@@ -68,7 +69,12 @@ record IsRightOpening (opening : Opening) : Type 0 where
 -- An opening that is there is right.
 opening_right : (extent : Extent) (words more : List ℕ) (opening : Opening) → IsOpening extent words more opening
     → IsRightOpening opening
-opening_right extent words more opening h1 = grind (arith, nat_tests, head_only, macro_byte)
+opening_right extent words more opening (headed head wide s is) = grind (arith, nat_tests, head_only)
+opening_right extent words more opening (framed digit wide f is) =
+    let m = frame_macro words digit f in
+    let small = macro_byte m.0 digit m.1 in
+    rw is (grind (arith, nat_tests, small))
+opening_right extent words more opening (plain none no_head no_frame is) = rw is (grind (arith, nat_tests))
 
 -- What a right opening and right parts say is a content.
 said_right : (opening : Opening) (said : List Said) → IsRightOpening opening → AllByRecursion IsRight said
@@ -79,7 +85,7 @@ said_right opening said o r =
     let behind = closing_items opening in
     let le : length before + length middle ≤ length (before ++ (middle ++ behind)) =
     omega (arith, length-append before (middle ++ behind), length-append middle behind) in
-    record {
+    subst IsContent (sym (said_behind opening said)) (record {
       head = o.head;
       items = All-from_recursion IsItem (before
           ++ (middle ++ behind))
@@ -89,7 +95,7 @@ said_right opening said o r =
           (more_items (length before) (length before + length middle) (length (before ++ (middle ++ behind)))
           (said_marks (length before) said) (marks_right (length before) said r) le)
           (omega arith);
-    }
+    })
 
 -- What codewords say is a content.
 pub said_is_content : (extent : Extent) (words : List ℕ) (l : ContentView) → Says extent words l → IsContent l

@@ -3,11 +3,10 @@ use Rattle.dm_words.proofs.Names.{◌≡◌, ℕ, zero, suc, ◌+◌, ◌-◌, �
 use Rattle.dm_words.proofs.Names.{get_or, refl, sym, ap, subst, ◌∙◌, append_assoc, add-zero, add-one, arith, Option}
 use Rattle.dm_words.proofs.Names.{Some, take-append-drop, length-take, get_or-drop, length-drop, nil_from_length}
 use Rattle.dm_words.proofs.Names.{take_all, take-suc, drop-cons, Item, Byte, WordFault, long_count, IsLengthField}
-use Rattle.dm_words.proofs.Names.{short, long, missing, past_short, no_second, wrong_second, past_long, byte_items}
-use Rattle.dm_words.proofs.Names.{Step, Takes, Stops, nat_tests}
+use Rattle.dm_words.proofs.Names.{short, long, byte_items, Step, Takes, Stops, nat_tests}
 use Rattle.dm_words.specs.declared.fault.WordFault.TheVariants as fault
 use Rattle.dm_words.specs.inner.Scan.Prefixes.{plain_at, plain, segment_behind}
-use Rattle.dm_words.proofs.Segments.{segment_again, bad_again}
+use Rattle.dm_words.proofs.Segments.{segment_again, past_short, no_second, wrong_second, past_long}
 
 -- The items of two lists of bytes, joined, are those of each, joined.
 pub byte_items-append : (a b : List ℕ) → byte_items (a ++ b) ≡ byte_items a ++ byte_items b
@@ -77,10 +76,11 @@ module _ (words : List ℕ) (at : ℕ) where
 
   -- The length is bad where no codeword follows the latch.
   pub nothing_left : length words - at - 1 ≡ 0 → Bad
+  unfolding segment_behind
   nothing_left e =
       let none : drop (at + 1) words
       ≡ [] = nil_from_length (drop (at + 1) words) (omega (arith, length-drop (at + 1) words)) in
-      rw none (bad_again (at + 1) [] (missing refl))
+      rw none refl
 
   module _ (d : ℕ) (lt : at + 1 < length words) (is : d ≡ plain_at (at + 1 + 1) (get_or words (at + 1) 0)) where
     -- These are the values behind the first length number.
@@ -104,7 +104,7 @@ module _ (words : List ℕ) (at : ℕ) where
     -- The length is bad where fewer bytes are left than one length number says.
     pub past_short_found : d ≤ 249 → length words - at - 1 - 1 < d → Bad
     past_short_found le past =
-        rw values_are (bad_again (at + 1) (d ∷ others) (past_short d others le refl (omega (arith, length-others))))
+        rw values_are (past_short (at + 1) d others le (omega (arith, length-others)))
 
     -- A first length number of 1 to 249 takes as many bytes as it says.
     pub short_found : 0 < d → d ≤ 249 → d ≤ length words - at - 1 - 1
@@ -119,7 +119,7 @@ module _ (words : List ℕ) (at : ℕ) where
     pub no_second_found : 249 < d → length words - at - 1 ≡ 1 → Bad
     no_second_found big e =
         let none : others ≡ [] = nil_from_length others (omega (arith, length-others)) in
-        rw (values_are, none) (bad_again (at + 1) (d ∷ []) (no_second d big refl))
+        rw (values_are, none) (no_second (at + 1) d big)
 
     module _ (big : 249 < d) (f : ℕ) (lt2 : at + 2 < length words) (is2 : f
         ≡ plain_at (at + 2 + 1) (get_or words (at + 2) 0)) where
@@ -138,13 +138,12 @@ module _ (words : List ℕ) (at : ℕ) where
       -- The length is bad where the second length number is above 249.
       pub wrong_second_found : 249 < f → Bad
       wrong_second_found wrong =
-          rw (values_are, others_are) (bad_again (at + 1) (d ∷ f ∷ more) (wrong_second d f more big wrong refl))
+          rw (values_are, others_are) (wrong_second (at + 1) d f more big wrong)
 
       -- The length is bad where fewer bytes are left than the two length numbers say.
       pub past_long_found : f ≤ 249 → length words - at - 1 - 2 < long_count d f → Bad
       past_long_found le past =
-          rw (values_are, others_are)
-          (bad_again (at + 1) (d ∷ f ∷ more) (past_long d f more big le refl (omega (arith, length-more))))
+          rw (values_are, others_are) (past_long (at + 1) d f more big le (omega (arith, length-more)))
 
       -- Two length numbers take as many bytes as they say.
       pub long_found : f ≤ 249 → long_count d f ≤ length words - at - 1 - 2

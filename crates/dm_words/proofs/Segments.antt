@@ -4,12 +4,11 @@ use Rattle.dm_words.proofs.Names.{drop, refl, sym, ap, ◌∙◌, append_assoc, 
 use Rattle.dm_words.proofs.Names.{ltb, Option, Some, None, eqb-true, ltb-false, nat_tests, take_at, append-nil}
 use Rattle.dm_words.proofs.Names.{length-append, length-take, take-append-drop, Item, WordFault, codeword_of, random_at}
 use Rattle.dm_words.proofs.Names.{written, AreBytes, long_count, IsLengthField, to_the_end, short, long, IsSegment}
-use Rattle.dm_words.proofs.Names.{missing, past_short, no_second, wrong_second, past_long, byte_items, Step, Takes}
-use Rattle.dm_words.proofs.Names.{Stops}
+use Rattle.dm_words.proofs.Names.{byte_items, Step, Takes, Stops, zero}
 use Rattle.std.proofs.lemmas.Bool.{ltb-true, le-ltb}
 use Rattle.dm_words.specs.declared.codeword.Codeword.TheVariants as codeword
 use Rattle.dm_words.specs.declared.fault.WordFault.TheVariants as fault
-use Rattle.dm_words.specs.Base256.{IsBadLength, IsFaultySegment}
+use Rattle.dm_words.specs.Base256.{IsFaultySegment}
 use Rattle.dm_words.specs.inner.Scan.Prefixes.{plain, segment_by, long_segment, segment_behind}
 use Rattle.dm_words.proofs.Pairs.{IsBytes}
 use Rattle.dm_words.proofs.Runs.{cut_behind_prefix}
@@ -70,11 +69,11 @@ pub record SegmentTakes (place : ℕ) (words : List ℕ) (n : ℕ) (items : List
   pub some : 0 < n
   pub within : n ≤ length words
 
--- What is found behind a latch is a segment, or a faulty one with a bad length.
+-- What is found behind a latch is a segment, or the fault of a bad length.
 abbrev pub SegmentJudged : ℕ → List ℕ → Step (List Item) (Option WordFault) → Type 0
 SegmentJudged place words (Takes n items) = SegmentTakes place words n items
 SegmentJudged place words (Stops None) = ⊥
-SegmentJudged place words (Stops (Some f)) = IsFaultySegment place words × (f ≡ fault.Length place)
+SegmentJudged place words (Stops (Some f)) = f ≡ fault.Length place
 
 module _ (place w : ℕ) (is_latch : codeword_of w ≡ Some codeword.Base256) (words : List ℕ) where
   -- With this field and these bytes, the segment that is found is a segment.
@@ -102,32 +101,14 @@ module _ (place w : ℕ) (is_latch : codeword_of w ≡ Some codeword.Base256) (w
       } in
       record { right = rw (c.0, c.1) right; some = omega (arith, len); within = c.2 }
 
-  -- With a bad length, the segment is faulty.
-  faulty : (values : List ℕ) → words ≡ written (place + 1) values → AreBytes values → IsBadLength values
-      → IsFaultySegment place (w ∷ words) × (fault.Length place ≡ fault.Length place)
-  faulty values e fit is_bad = (
-    record {
-      latch = w;
-      is_latch = is_latch;
-      values = values;
-      whole = ap (λ (r : List ℕ). w ∷ r) e;
-      in_range =
-          fit;
-      is_bad = is_bad;
-    },
-    refl,
-  )
-
   -- What is found by the number of bytes that the field says is right.
   by_count : (field values : List ℕ) (n : ℕ) (b : Bool) → words ≡ written (place + 1) (field ++ values)
-      → AreBytes field → AreBytes values → ltb (length values) n ≡ b
-      → (length values < n → IsBadLength (field ++ values))
+      → AreBytes values → ltb (length values) n ≡ b
       → ((count : ℕ) (after : List ℕ) → count ≡ n → IsLengthField field count after)
       → SegmentJudged place (w ∷ words)
       (cond b (Stops (Some (fault.Length place))) (Takes (1 + length field + n) (byte_items (take n values))))
-  by_count field values n true e ff fit eb bad good =
-      faulty (field ++ values) e (all-append (λ w. w < 256) field values ff fit) (bad (ltb-true _ _ eb))
-  by_count field values n false e ff fit eb bad good =
+  by_count field values n true e fit eb good = refl
+  by_count field values n false e fit eb good =
       let le : n ≤ length values = ltb-false _ _ eb in
       let len : length (take n values) ≡ n = omega (arith, length-take n values) in
       let regrouped : words ≡ written (place + 1) ((field ++ take n values) ++ drop n values) =
@@ -141,17 +122,15 @@ module _ (place w : ℕ) (is_latch : codeword_of w ≡ Some codeword.Base256) (w
       → AreBytes (d ∷ e ∷ values) → 249 < d → ltb 249 e ≡ b
       → SegmentJudged place (w ∷ words)
       (cond b (Stops (Some (fault.Length place))) (segment_by place 2 (long_count d e) values))
-  by_second d e values true eq fit big eb =
-      faulty (d ∷ e ∷ values) eq fit (wrong_second d e values big (ltb-true _ _ eb) refl)
+  by_second d e values true eq fit big eb = refl
   by_second d e values false eq fit big eb =
       let le : e ≤ 249 = ltb-false _ _ eb in
-      by_count (d ∷ e ∷ []) values (long_count d e) _ eq (fit.0, (fit.1.0, tt)) fit.1.1 refl
-      (λ lt. past_long d e values big le refl lt) (λ count after is. long d e big fit.0 le refl is)
+      by_count (d ∷ e ∷ []) values (long_count d e) _ eq fit.1.1 refl (λ count after is. long d e big fit.0 le refl is)
 
   -- What is found behind a first length number of 250 or more is right.
   by_long : (d : ℕ) (values : List ℕ) → words ≡ written (place + 1) (d ∷ values) → AreBytes (d ∷ values) → 249 < d
       → SegmentJudged place (w ∷ words) (long_segment place d values)
-  by_long d [] eq fit big = faulty (d ∷ []) eq fit (no_second d big refl)
+  by_long d [] eq fit big = refl
   by_long d (e ∷ values) eq fit big = by_second d e values _ eq fit big refl
 
   -- What is found by the first length number is right.
@@ -169,16 +148,16 @@ module _ (place w : ℕ) (is_latch : codeword_of w ≡ Some codeword.Base256) (w
   by_first d values false false eq fit ea eb =
       let le : d ≤ 249 = ltb-false _ _ eb in
       let pos : 0 < d = grind (arith, nat_tests) in
-      by_count (d ∷ []) values d _ eq (fit.0, tt) fit.1 refl (λ lt. past_short d values le refl lt)
-      (λ count after is. short d pos le refl is)
+      by_count (d ∷ []) values d _ eq fit.1 refl (λ count after is. short d pos le refl is)
 
   -- What is found by the values behind the latch is right.
   by_values : (values : List ℕ) → words ≡ written (place + 1) values → AreBytes values
       → SegmentJudged place (w ∷ words) (segment_behind place values)
   unfolding segment_behind
-  by_values values h1 h2 = grind (arith, nat_tests, faulty, missing, by_first)
+  by_values [] h1 h2 = refl
+  by_values (d ∷ values) h1 h2 = by_first d values _ _ h1 h2 refl refl
 
--- A segment that is found is a segment, and a bad length is bad.
+-- A segment that is found is a segment, and a fault is that of a bad length.
 pub segment_judged : (place w : ℕ) (words : List ℕ) → codeword_of w ≡ Some codeword.Base256 → IsBytes words
     → SegmentJudged place (w ∷ words) (segment_behind place (plain (place + 1) words))
 segment_judged place w words is_latch fit = grind (arith, nat_tests, by_values, plain, written-plain, plain_small)
@@ -192,11 +171,30 @@ unfolding segment_behind
 segment_again place field bytes more h1 =
     grind (arith, nat_tests, to_the_end, append-nil, le-ltb, length-append, take_at, long_count)
 
--- A bad length is found.
-pub bad_again : (place : ℕ) (values : List ℕ) → IsBadLength values → segment_behind place values
-    ≡ Stops (Some (fault.Length place))
+-- The length is bad where fewer bytes follow than one length number says.
+pub past_short : (place first : ℕ) (more : List ℕ) → first ≤ 249 → length more < first
+    → segment_behind place (first ∷ more) ≡ Stops (Some (fault.Length place))
 unfolding segment_behind
-bad_again place values h1 = grind (arith, nat_tests, past_short, no_second, wrong_second, past_long, long_count)
+past_short place first more le past = grind (arith, nat_tests)
+
+-- It is bad where no second length number follows a first one of 250 or more.
+pub no_second : (place first : ℕ) → 249 < first
+    → segment_behind place (first ∷ []) ≡ Stops (Some (fault.Length place))
+unfolding segment_behind
+no_second place first big = grind (arith, nat_tests)
+
+-- It is bad where the second length number is above 249.
+pub wrong_second : (place first second : ℕ) (more : List ℕ) → 249 < first → 249 < second
+    → segment_behind place (first ∷ second ∷ more) ≡ Stops (Some (fault.Length place))
+unfolding segment_behind
+wrong_second place first second more big wrong = grind (arith, nat_tests)
+
+-- It is bad where fewer bytes follow than two length numbers say.
+pub past_long : (place first second : ℕ) (more : List ℕ) → 249 < first → second ≤ 249
+    → length more < long_count first second
+    → segment_behind place (first ∷ second ∷ more) ≡ Stops (Some (fault.Length place))
+unfolding segment_behind
+past_long place first second more big le past = grind (arith, nat_tests, long_count)
 
 -- The words begin with the latch of a segment, and this is found behind it.
 pub record SegmentFound (place : ℕ) (words : List ℕ) (step : Step (List Item) (Option WordFault)) : Type 0 where
@@ -251,6 +249,29 @@ segment_complete place words after items s =
       omega (arith, len),
     )
 
+-- Where a fault is found behind a latch, the segment is faulty.
+pub bad_sound : (place w : ℕ) (words : List ℕ) (f : WordFault) → codeword_of w ≡ Some codeword.Base256 → IsBytes words
+    → segment_behind place (plain (place + 1) words) ≡ Stops (Some f) → IsFaultySegment place (w ∷ words)
+bad_sound place w words f is_latch fit e = record {
+  latch = w;
+  is_latch = is_latch;
+  values = plain (place + 1) words;
+  in_range = plain_small (place + 1) words;
+  whole = ap (λ (r : List ℕ). w ∷ r) (sym (written-plain (place + 1) words fit));
+  no_segment = λ first after items s is. none first after items (segment_complete place first after items s).0 is;
+} where
+  none : (first after : List ℕ) (items : List Item) → SegmentFound place (first ++ after) (Takes (length first) items)
+      → w ∷ words ≡ first ++ after → ⊥
+  none first after items found is = (let same : w ∷ words ≡ found.latch ∷ found.others = is ∙ found.whole in
+      let others : words ≡ found.others = cc in
+      let both = sym e ∙ ap (λ (r : List ℕ). segment_behind place (plain (place + 1) r)) others ∙ found.found in cc)
+
+-- Values that are written are 0 to 255.
+written_small : (place : ℕ) (vs : List ℕ) → IsBytes (written place vs)
+written_small place [] i = omega arith
+written_small place (v ∷ vs) zero = omega arith
+written_small place (v ∷ vs) (suc i) = written_small (place + 1) vs i
+
 -- A bad length that is a prefix is found.
 pub bad_complete : (place : ℕ) (words : List ℕ) → IsFaultySegment place words
     → SegmentFound place words (Stops (Some (fault.Length place)))
@@ -259,8 +280,17 @@ bad_complete place words s = record {
   others = written (place + 1) s.values;
   whole = s.whole;
   is_latch = s.is_latch;
-  found = ap (segment_behind place) (plain-written (place + 1) s.values s.in_range) ∙ bad_again place s.values s.is_bad;
-}
+  found = by_found _ refl (segment_judged place s.latch (written (place + 1) s.values) s.is_latch
+      (written_small (place + 1) s.values));
+} where
+  by_found : (step : Step (List Item) (Option WordFault))
+      → segment_behind place (plain (place + 1) (written (place + 1) s.values)) ≡ step
+      → SegmentJudged place (s.latch ∷ written (place + 1) s.values) step → step ≡ Stops (Some (fault.Length place))
+  by_found (Takes n items) e j =
+      absurd (s.no_segment _ _ items j.right (s.whole
+      ∙ sym (take-append-drop n (s.latch ∷ written (place + 1) s.values))))
+  by_found (Stops None) e j = absurd j
+  by_found (Stops (Some f)) e j = rw j refl
 
 -- There is one item for each byte.
 pub byte_items-length : (bs : List ℕ) → length (byte_items bs) ≡ length bs

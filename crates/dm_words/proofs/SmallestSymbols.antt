@@ -36,7 +36,7 @@ pub usual_few : (words : List ℕ) (m : List Item) → 2 * length m ≤ never �
 usual_few words m few s =
     no_fewer_words Usual words m (parts_cost (at_end Usual) m) few
     (record { parts = omega arith; macros = λ word digit text wide k e no_fnc1. absurd (not_wide wide) })
-    (λ frames begins. usual_no_frame words (as_content m) s begins) s
+    (λ frames. usual_no_frame words (as_content m) s) s
 
 -- ---- the size
 

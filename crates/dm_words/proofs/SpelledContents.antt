@@ -1,11 +1,11 @@
 -- Codewords that spell a message are parts of it, and parts of a message say it as a content.
-use Rattle.dm_words.proofs.Names.{◌≡◌, ℕ, ◌+◌, List, [], ◌∷◌, ◌++◌, length, refl, sym, subst, ap, ◌∙◌, append_assoc}
-use Rattle.dm_words.proofs.Names.{arith, Some, None, inl, inr, ◌⊎◌, append-nil, CodeSet, Extent, Wide, Item}
-use Rattle.dm_words.proofs.Names.{ContentFault, Plain, Framed, codeword_of, unlatch_word, Piece, spelled, gathered}
-use Rattle.dm_words.proofs.Names.{whats, AreJoined, unlatch, filler, nothing, IsPart, run, AreParts, Spells, left_out}
-use Rattle.dm_words.proofs.Names.{always, macro_behind, ContentView, Said, Items, IsContentPart, part}
-use Rattle.dm_words.proofs.Names.{AreContentParts, said_items, said_marks, AreEmptyRuns, BeginsFrame}
-use Rattle.dm_words.proofs.Names.{BeginsWithHeadWord, framed, AreOpened, IsContentFault, word, HaveContentFault}
+use Rattle.dm_words.proofs.Names.{◌≡◌, ℕ, ◌+◌, List, [], ◌∷◌, ◌++◌, length, refl, sym, subst, ap, ◌∙◌}
+use Rattle.dm_words.proofs.Names.{arith, Some, None, inl, inr, ◌⊎◌, CodeSet, Extent, Wide, Item}
+use Rattle.dm_words.proofs.Names.{ContentFault, Plain, Framed, codeword_of, Piece, spelled, gathered}
+use Rattle.dm_words.proofs.Names.{whats, AreJoined, unlatch, nothing, IsPart, run, AreParts, Spells, left_out}
+use Rattle.dm_words.proofs.Names.{macro_behind, ContentView, Said, Items, IsContentPart, part}
+use Rattle.dm_words.proofs.Names.{AreContentParts, said_items, said_marks, AreFrame, BeginsNoFrame}
+use Rattle.dm_words.proofs.Names.{BeginsNoHeadWord, framed, AreOpened, IsContentFault, word, HaveContentFault}
 use Rattle.dm_words.proofs.Names.{macro_text, IsPlainPart, IsPlainSaid, ArePads, SaysThenPads, as_content}
 use Rattle.dm_words.specs.declared.codeword.Codeword.TheVariants as codeword
 use Rattle.dm_words.specs.declared.fault.WordFault.TheVariants as word_fault
@@ -17,7 +17,7 @@ use Rattle.dm_words.specs.Laws.{AreMacro}
 
 -- An empty run is a part of a message.
 empty_run : (place latch unlatch_there : ℕ) (set : CodeSet) (after : List ℕ) → codeword_of latch
-    ≡ Some (codeword.Latch set) → unlatch_there ≡ unlatch_word
+    ≡ Some (codeword.Latch set) → unlatch_there ≡ 254
     → IsPart Wide place (latch ∷ unlatch_there ∷ []) after []
 empty_run place latch unlatch_there set after k is =
     run set (record {
@@ -25,37 +25,18 @@ empty_run place latch unlatch_there set after k is =
       is_latch = k;
       pairs = [];
       each = tt;
-      end = unlatch_word ∷ [];
+      end = 254 ∷ [];
       ended = unlatch refl;
       whole = ap (λ (u : ℕ). latch ∷ u ∷ []) is;
       values = record {
         spellings = [];
         each = tt;
         filler = [];
-        ended = filler (nothing refl);
+        ended = inl (nothing refl);
         whole = refl;
         items_are = refl;
       };
     })
-
--- Empty runs are parts of a content.
-record HasRuns (place : ℕ) (runs after : List ℕ) : Type 0 where
-  parts : List (Piece Said)
-  joined : AreJoined (IsContentPart Wide) place parts after
-  whole : runs ≡ spelled parts
-
--- Empty runs are parts of a content, one after the other.
-runs_are : (place : ℕ) (runs after : List ℕ) → AreEmptyRuns runs → HasRuns place runs after
-runs_are place [] after are = record { parts = []; joined = tt; whole = refl }
-runs_are place (l ∷ []) after are = absurd are
-runs_are place (l ∷ u ∷ runs) after are =
-    let rest = runs_are (place + 2) runs after are.2 in
-    let p : Piece Said = record { words = l ∷ u ∷ []; what = Items [] } in
-    record {
-      parts = p ∷ rest.parts;
-      joined = (part [] (empty_run place l u are.0.0 (spelled rest.parts ++ after) are.0.1 are.1) refl, rest.joined);
-      whole = ap (λ (r : List ℕ). l ∷ u ∷ r) rest.whole;
-    }
 
 -- A macro begins no part of a content.
 macro_faulty : (place w digit : ℕ) (more : List ℕ) → codeword_of w ≡ Some (codeword.Macro digit)
@@ -64,23 +45,35 @@ macro_faulty place w digit more k =
     word (word_fault.LeftOut w place)
     (λ wide rest is. (let same : w ≡ 241 = cc in
     let l : codeword_of w ≡ Some codeword.LeftOut = ap codeword_of same in cc))
-    (left_out w more (macro_behind digit k) refl refl) refl
+    (macro_behind w digit more k refl refl) refl
 
--- A macro behind empty runs is a fault, where the parts begin with those.
-frame_faulty : (words : List ℕ) → BeginsFrame words → (f : ContentFault) × HaveContentFault Wide 1 words f
-frame_faulty words b =
-    let f = b.is_frame in
-    let r = runs_are 1 f.runs (f.word ∷ b.more) f.are_empty in
-    let whole : words ≡ spelled r.parts ++ (f.word ∷ b.more) =
-    b.whole ∙ ap (λ (x : List ℕ). x ++ b.more) f.whole ∙ append_assoc f.runs (f.word ∷ []) b.more
-    ∙ ap (λ (x : List ℕ). x ++ (f.word ∷ b.more)) r.whole in (
-      fault.Word (word_fault.LeftOut f.word (1 + length (spelled r.parts))),
+-- A macro, alone or behind empty runs, is a fault where parts would begin: the runs are parts, and the macro is none.
+frame_faulty : (place : ℕ) (frame rest : List ℕ) (digit : ℕ) → AreFrame frame digit
+    → (f : ContentFault) × HaveContentFault Wide place (frame ++ rest) f
+frame_faulty place [] rest digit f = absurd f
+frame_faulty place (w ∷ []) rest digit f = (
+  fault.Word (word_fault.LeftOut w (place + 0)),
+  record {
+    parts = [];
+    after = w ∷ rest;
+    joined = tt;
+    whole = refl;
+    faulty = macro_faulty (place + 0) w digit rest f;
+  },
+)
+frame_faulty place (l ∷ u ∷ frame) rest digit f =
+    let t = frame_faulty (place + 2) frame rest digit f.2 in
+    let p : Piece Said = record { words = l ∷ u ∷ []; what = Items [] } in
+    let after : List ℕ = spelled t.1.parts ++ t.1.after in
+    let same : place + 2 + length (spelled t.1.parts)
+    ≡ place + length (spelled (p ∷ t.1.parts)) = omega arith in (
+      t.0,
       record {
-        parts = r.parts;
-        after = f.word ∷ b.more;
-        joined = r.joined;
-        whole = whole;
-        faulty = macro_faulty (1 + length (spelled r.parts)) f.word b.digit b.more f.is_macro;
+        parts = p ∷ t.1.parts;
+        after = t.1.after;
+        joined = (part [] (empty_run place l u f.0.0 after f.0.1 f.1) refl, t.1.joined);
+        whole = ap (λ (r : List ℕ). l ∷ u ∷ r) t.1.whole;
+        faulty = subst (λ (k : ℕ). IsContentFault Wide k t.1.after t.0) same t.1.faulty;
       },
     )
 
@@ -88,37 +81,39 @@ frame_faulty words b =
 abbrev nothing_read : ContentView
 nothing_read = record { head = None; items = []; marks = [] }
 
--- Parts of a content begin with no macro behind empty runs.
-pub no_frame : (words : List ℕ) (said : List Said) → AreContentParts Wide 1 words said → BeginsFrame words → ⊥
-no_frame words said parts b =
-    let f = frame_faulty words b in
+-- Parts of a content begin with no macro, alone or behind empty runs.
+pub no_frame : (words : List ℕ) (said : List Said) → AreContentParts Wide 1 words said → BeginsNoFrame words
+no_frame words said parts frame rest digit f whole =
+    let g = frame_faulty 1 frame rest digit f in
+    let there : HaveContentFault Wide 1 words g.0 =
+    subst (λ (ws : List ℕ). HaveContentFault Wide 1 ws g.0) (sym whole) g.1 in
     let reads = parts_read Wide nothing_read 1 words said parts in
-    let refuses = fault_read Wide nothing_read 1 words f.0 f.1 in
+    let refuses = fault_read Wide nothing_read 1 words g.0 there in
     absurd cc
 
 -- The codewords of a head are left out where a part would begin.
-head_faulty : (words : List ℕ) → BeginsWithHeadWord words → (f : ContentFault) × HaveContentFault Wide 1 words f
-head_faulty words b = (
-  fault.Word (word_fault.LeftOut b.word 1),
-  record { parts = []; after = words; joined = tt; whole = refl; faulty = by_word b.is_head_word },
+head_faulty : (words : List ℕ) (v : ℕ) (rest : List ℕ) → (v ≡ 233) ⊎ (v ≡ 234) → words ≡ v ∷ rest
+    → (f : ContentFault) × HaveContentFault Wide 1 words f
+head_faulty words v rest is whole = (
+  fault.Word (word_fault.LeftOut v 1),
+  record { parts = []; after = words; joined = tt; whole = refl; faulty = by_word is },
 ) where
-  there : (w : ℕ) → b.word ≡ w → codeword_of w ≡ Some codeword.LeftOut → (w ≡ 241 → ⊥)
-      → IsContentFault Wide 1 words (fault.Word (word_fault.LeftOut b.word 1))
+  there : (w : ℕ) → v ≡ w → codeword_of w ≡ Some codeword.LeftOut → (w ≡ 241 → ⊥)
+      → IsContentFault Wide 1 words (fault.Word (word_fault.LeftOut v 1))
   there w is k other =
-      word (word_fault.LeftOut b.word 1)
-      (λ wide rest e. (let same : b.word ∷ b.more ≡ 241 ∷ rest = sym b.whole ∙ e in
-      let eci : b.word ≡ 241 = cc in other (sym is ∙ eci)))
-      (left_out b.word b.more (always (ap codeword_of is ∙ k)) b.whole refl) refl
+      word (word_fault.LeftOut v 1)
+      (λ wide more e. (let same : v ∷ rest ≡ 241 ∷ more = sym whole ∙ e in
+      let eci : v ≡ 241 = cc in other (sym is ∙ eci)))
+      (left_out v rest (ap codeword_of is ∙ k) whole refl) refl
 
-  by_word : (b.word ≡ 233) ⊎ (b.word ≡ 234) → IsContentFault Wide 1 words (fault.Word (word_fault.LeftOut b.word 1))
+  by_word : (v ≡ 233) ⊎ (v ≡ 234) → IsContentFault Wide 1 words (fault.Word (word_fault.LeftOut v 1))
   by_word (inl is) = there 233 is refl (λ e. absurd (omega (arith, e)))
   by_word (inr is) = there 234 is refl (λ e. absurd (omega (arith, e)))
 
 -- Parts of a content begin with neither of them.
-pub no_head_word : (words : List ℕ) (said : List Said) → AreContentParts Wide 1 words said
-    → BeginsWithHeadWord words → ⊥
-no_head_word words said parts b =
-    let f = head_faulty words b in
+pub no_head_word : (words : List ℕ) (said : List Said) → AreContentParts Wide 1 words said → BeginsNoHeadWord words
+no_head_word words said parts v rest is whole =
+    let f = head_faulty words v rest is whole in
     let reads = parts_read Wide nothing_read 1 words said parts in
     let refuses = fault_read Wide nothing_read 1 words f.0 f.1 in
     absurd cc
@@ -198,7 +193,7 @@ parts_spell extent words m p =
       opened = opened_plain extent words words (whats (as_said p.parts)) refl parts;
       said = whats (as_said p.parts);
       parts = parts;
-      content_is = rw (same_items p.parts, no_marks 0 p.parts, append-nil (gathered p.parts), ← p.items_are) refl;
+      content_is = rw (same_items p.parts, no_marks 0 p.parts, ← p.items_are) refl;
     }
 
 -- With pads behind them they say it as a content.
@@ -217,8 +212,7 @@ macro_spells extent w digit words more text wide k whole p = record {
   more = more;
   opened = record {
     first = w ∷ [];
-    is_opening = framed digit wide (record { runs = []; word = w; are_empty = tt; is_macro = k; whole = refl })
-        refl;
+    is_opening = framed digit wide k refl;
     whole = whole;
     place_is = refl;
   };

@@ -2,7 +2,7 @@
 use Rattle.dm_words.proofs.Names.{◌≡◌, ◌≢◌, ℕ, ◌+◌, ◌<◌, ◌≤◌, List, [], ◌∷◌, ◌++◌, length, take, drop, refl, sym}
 use Rattle.dm_words.proofs.Names.{subst, arith, Option, Some, None, inl, inr, ◌⊎◌, AllByRecursion, nat_tests}
 use Rattle.dm_words.proofs.Names.{recursion_from_All, take-append-drop, Item, Byte, CodeSet, C40, Text, X12, Shift}
-use Rattle.dm_words.proofs.Names.{Basic, Shifted, basic_of, shifted_of, IsShifted, IsUpperShift, IsCharacter, by_shift}
+use Rattle.dm_words.proofs.Names.{Basic, Shifted, basic_of, shifted_of, IsShifted, IsCharacter, by_shift, Extent, Wide}
 use Rattle.dm_words.proofs.Names.{IsSpelling, IsFiller, nothing, lone_shift, IsRest, waiting, AreRunValues}
 use Rattle.dm_words.proofs.Names.{BeginsNoSpelling, Step, Takes, Stops, first_raised, first_spelling}
 use Rattle.dm_words.specs.declared.c40.set.Basic.TheVariants as basic
@@ -32,6 +32,10 @@ basic_some C40 v lt e = grind (arith, nat_tests)
 basic_some Text v lt e = grind (arith, nat_tests)
 basic_some X12 v lt e = grind (arith, nat_tests)
 
+-- This is dropped at the end of a run.
+abbrev pub IsDropped : Extent → CodeSet → List ℕ → Type 0
+IsDropped extent set values = IsFiller set values ⊎ ((extent ≡ Wide) × IsWaiting set values)
+
 -- A rest of this kind stands behind the last whole spelling.
 abbrev pub IsRestOf : CodeSet → List ℕ → Rest → Type 0
 IsRestOf set values left.Complete = IsFiller set values
@@ -55,8 +59,8 @@ shift_means set s v shift meaning es ev = grind (arith, nat_tests)
 
 -- What is found behind an Upper Shift and a shift is right.
 judged_raised_shifted : (set : CodeSet) (s v t w : ℕ) (shift : Shift) (more : List ℕ) (k : Option Shifted)
-    → IsUpperShift set (s ∷ v ∷ []) → basic_of set t ≡ Some (basic.Shift shift) → shifted_of set shift w ≡ k
-    → Judged set (s ∷ v ∷ t ∷ w ∷ more) (raised_shifted k)
+    → IsShifted set (s ∷ v ∷ []) (Some shifted.UpperShift) → basic_of set t ≡ Some (basic.Shift shift)
+    → shifted_of set shift w ≡ k → Judged set (s ∷ v ∷ t ∷ w ∷ more) (raised_shifted k)
 judged_raised_shifted set s v t w shift more (Some (shifted.Character b)) u et ew = (
   raised (s ∷ v ∷ []) (t ∷ w ∷ []) b u (by_shift (shift_means set t w shift _ et ew)) refl refl,
   omega arith,
@@ -86,8 +90,9 @@ judged_raised_shifted set s v t w shift more None u et ew =
     λ fit. after_upper_shift (s ∷ v ∷ []) (t ∷ w ∷ []) more u (shift_means set t w shift _ et ew) refl refl
 
 -- What is found behind an Upper Shift is right.
-judged_raised : (set : CodeSet) (s v t : ℕ) (more : List ℕ) (k : Option Basic) → IsUpperShift set (s ∷ v ∷ [])
-    → basic_of set t ≡ k → Judged set (s ∷ v ∷ t ∷ more) (raised_by set more k)
+judged_raised : (set : CodeSet) (s v t : ℕ) (more : List ℕ) (k : Option Basic)
+    → IsShifted set (s ∷ v ∷ []) (Some shifted.UpperShift) → basic_of set t ≡ k
+    → Judged set (s ∷ v ∷ t ∷ more) (raised_by set more k)
 judged_raised set s v t more None u et = λ fit. absurd (basic_some set t fit.1.1.0 et)
 judged_raised set s v t more (Some (basic.Character b)) u et =
     (raised (s ∷ v ∷ []) (t ∷ []) b u (plain t et refl) refl refl, omega arith, omega arith)
@@ -171,8 +176,10 @@ item_complete set place values after item (fnc1 s i) = rw (s.whole, i) ((rw (s.i
 item_complete set place values after item (raised upper more b u c w i) = grind (arith, nat_tests, raised_character)
 
 -- An Upper Shift before something that is not a character is found.
-wrong_complete : (set : CodeSet) (place : ℕ) (values upper pair more : List ℕ) → IsUpperShift set upper
-    → IsShifted set pair (Some shifted.Fnc1) ⊎ IsUpperShift set pair → values ≡ upper ++ (pair ++ more)
+wrong_complete : (set : CodeSet) (place : ℕ) (values upper pair more : List ℕ)
+    → IsShifted set upper (Some shifted.UpperShift)
+    → IsShifted set pair (Some shifted.Fnc1) ⊎ IsShifted set pair (Some shifted.UpperShift)
+    → values ≡ upper ++ (pair ++ more)
     → first_spelling set place values ≡ Stops left.WrongUpperShift
 wrong_complete set place values upper pair more h1 h2 h3 = grind (arith, nat_tests)
 

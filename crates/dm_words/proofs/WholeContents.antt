@@ -3,7 +3,7 @@
 use Rattle.dm_words.proofs.Names.{◌≡◌, ℕ, zero, suc, ◌+◌, List, [], ◌∷◌, ◌++◌, length, drop, refl, sym, ap, subst, ◌∙◌}
 use Rattle.dm_words.proofs.Names.{append_assoc, arith, Option, Some, None, Result, Ok, Err, inl, inr, drop_at, Extent}
 use Rattle.dm_words.proofs.Names.{ContentFault, Opened, Opening, spelled, AreBytes, ContentView, Said, IsContentPart}
-use Rattle.dm_words.proofs.Names.{AreContentParts, said_items, said_marks, opening_head, opening_items, closing_items}
+use Rattle.dm_words.proofs.Names.{AreContentParts, said_items, opening_items, closing_items}
 use Rattle.dm_words.proofs.Names.{said_content, AreOpened, Says, IsContentFault, HaveContentFault, IsRefused, no_head}
 use Rattle.dm_words.proofs.Names.{behind, HasOneContentResult, Stops, Walked, opened, first_content_part, extended}
 use Rattle.dm_words.proofs.Names.{content_to, opening_content, content_by, content_of}
@@ -104,7 +104,10 @@ fault_read extent so_far place words f r =
 closed_content : (opening : Opening) (said : List Said)
     → and_closing opening (Ok (extended (opening_content opening) said)) ≡ Ok (said_content opening said)
 closed_content opening said =
-    grind (arith, opening_head, said_marks, opening_items, append_assoc, said_items, closing_items)
+    rw (
+      openings.said_behind opening said,
+      append_assoc (opening_items opening) (said_items said) (closing_items opening),
+    ) refl
 
 -- A content before what closes it is read from a content.
 closing_content : (closing : Opening) (r : Result ContentView ContentFault) (l : ContentView) → and_closing closing r
@@ -158,8 +161,9 @@ reading_tells extent words (Some o) j fit =
           let g = t.fault_is f
           (closing_fault o.opening (content_on extent (opening_content o.opening) (1 + o.count) (drop o.count words)) f
           h) in
-          behind o.opening (1 + o.count) j.more opens
-          (subst (λ (ws : List ℕ). HaveContentFault extent (1 + o.count) ws f) rest g)
+          let there : HaveContentFault extent (1 + o.count) j.more f =
+          subst (λ (ws : List ℕ). HaveContentFault extent (1 + o.count) ws f) rest g in
+          behind o.opening (1 + o.count) j.more opens there.parts there.after there.joined there.whole there.faulty
           );
     }
 
@@ -194,7 +198,9 @@ said_reads extent words l s =
 pub refused_reads : (extent : Extent) (words : List ℕ) (f : ContentFault) → IsRefused extent words f
     → content_of extent words ≡ Err f
 refused_reads extent words f (no_head more wide e none is) = rw (wide, openings.no_head_complete _ more e none, is) refl
-refused_reads extent words f (behind opening place more a h) =
+refused_reads extent words f (behind opening place more a parts after joined whole faulty) =
+    let h : HaveContentFault extent place more f =
+    record { parts = parts; after = after; joined = joined; whole = whole; faulty = faulty } in
     let o = opens_so extent words opening place more a in
     let read = fault_read extent (opening_content opening) place more f h in
     let p : 1 + length a.first ≡ place = sym a.place_is in

@@ -7,8 +7,8 @@ use Rattle.dm_words.specs.declared.c40.set.CodeSet.TheVariants.{C40, Text, X12}
 use Rattle.dm_words.specs.Rows.{Row, one, each, look_up}
 
 -- In the table of codewords, 1 to 128 are the bytes 0 to 127, and 130 to 229 are the digit pairs 00 to 99. The
--- codewords 0 and 242 to 255 are not
--- used.
+-- codewords 0 and 242 to 255 are not used: 254 has no meaning in ASCII encodation, and is the unlatch in a run of C40,
+-- Text or X12.
 abbrev pub codeword_rows : List (Row Codeword)
 codeword_rows =
     each 1 128 0 127 Character ∷
@@ -50,11 +50,6 @@ fnc1_word = 232
 -- The Upper Shift is this codeword.
 abbrev pub upper_shift : ℕ
 upper_shift = 235
-
--- The unlatch is this codeword, which ends a run of C40, Text or X12. It has no meaning in ASCII encodation, so the
--- table doesn't have it.
-abbrev pub unlatch_word : ℕ
-unlatch_word = 254
 
 -- A codeword has this meaning; where it is not used, this is `None`.
 abbrev pub codeword_of : ℕ → Option Codeword

@@ -17,14 +17,14 @@ use Rattle.dm_words.specs.declared.contents.head.Head.{Head}
 use Rattle.dm_words.specs.declared.contents.mark.Mark.{Mark}
 use Rattle.dm_words.specs.declared.contents.opening.Opening.{Opening}
 use Rattle.dm_words.specs.declared.contents.opening.Opening.TheVariants.{Plain, Headed, Framed}
-use Rattle.dm_words.specs.Codewords.{codeword_of, unlatch_word}
+use Rattle.dm_words.specs.Codewords.{codeword_of}
 use Rattle.dm_words.specs.Messages.{IsMessage}
 use Rattle.dm_words.specs.Joined.{Piece, spelled, whats, AreJoined}
-use Rattle.dm_words.specs.Macros.{macro_header, macro_trailer}
+use Rattle.dm_words.specs.Macros.{macro_text}
 use Rattle.dm_words.specs.Parts.{IsPart, IsEnd}
 use Rattle.dm_words.specs.Faults.{IsFault}
-use Rattle.dm_words.specs.Designators.{eci_word, most_assigned, IsDesignator, BeginsNoDesignator}
-use Rattle.dm_words.specs.Heads.{append_word, programming_word, IsHead, SpellsHead, BeginsNoHead}
+use Rattle.dm_words.specs.Designators.{eci_word, most_assigned, IsDesignator}
+use Rattle.dm_words.specs.Heads.{IsHead, SpellsHead}
 
 -- A content is a head or none, items, and marks. A mark is the number of an ECI assignment at a place, which is the
 -- count of the items before it.
@@ -99,36 +99,13 @@ said_marks before (Number number ∷ said) = record { place = before; number = n
 
 -- ---- openings
 
--- Empty runs stand one after the other, each of which is a latch to C40, Text or X12 and an unlatch.
-abbrev pub AreEmptyRuns : List ℕ → Type 0
-AreEmptyRuns [] = Unit {0}
-AreEmptyRuns (latch ∷ []) = ⊥
-AreEmptyRuns (latch ∷ unlatch ∷ words) =
-    ((set : CodeSet) × (codeword_of latch ≡ Some (codeword.Latch set))) × (unlatch ≡ unlatch_word) × AreEmptyRuns words
-
--- The words are empty runs, or none, and then a macro of this digit. That a macro may stand behind such runs is a rule
--- of this project; an encoder writes so.
-pub record AreFrame (words : List ℕ) (digit : ℕ) : Type 0 where
-  pub runs : List ℕ
-  pub word : ℕ
-  pub are_empty : AreEmptyRuns runs
-  pub is_macro : codeword_of word ≡ Some (codeword.Macro digit)
-  pub whole : words ≡ runs ++ word ∷ []
-
--- The words begin with a macro, with empty runs before it or not.
-pub record BeginsFrame (words : List ℕ) : Type 0 where
-  pub first : List ℕ
-  pub digit : ℕ
-  pub more : List ℕ
-  pub is_frame : AreFrame first digit
-  pub whole : words ≡ first ++ more
-
--- The words begin with structured append or reader programming, whether as a head or not.
-pub record BeginsWithHeadWord (words : List ℕ) : Type 0 where
-  pub word : ℕ
-  pub more : List ℕ
-  pub is_head_word : (word ≡ append_word) ⊎ (word ≡ programming_word)
-  pub whole : words ≡ word ∷ more
+-- The words are a macro of this digit, alone or behind empty runs, each of which is a latch to C40, Text or X12 and an
+-- unlatch, 254. That a macro may stand behind such runs is a rule of this project; an encoder writes so.
+abbrev pub AreFrame : List ℕ → ℕ → Type 0
+AreFrame [] digit = ⊥
+AreFrame (word ∷ []) digit = codeword_of word ≡ Some (codeword.Macro digit)
+AreFrame (latch ∷ unlatch ∷ words) digit =
+    ((set : CodeSet) × (codeword_of latch ≡ Some (codeword.Latch set))) × (unlatch ≡ 254) × AreFrame words digit
 
 -- In the usual extent a content opens with nothing. In the wide one it opens with a head; or with a macro, behind empty
 -- runs or none; or with nothing, where the first codeword of the symbol is neither 233 nor 234, and no macro begins it
@@ -139,36 +116,20 @@ pub data IsOpening (extent : Extent) (words more : List ℕ) (opening : Opening)
       → IsOpening extent words more opening
   framed : (digit : ℕ) → extent ≡ Wide → AreFrame words digit → opening ≡ Framed digit
       → IsOpening extent words more opening
-  plain : words ≡ [] → (extent ≡ Wide → BeginsWithHeadWord more → ⊥) → (extent ≡ Wide → BeginsFrame more → ⊥)
+  plain : words ≡ []
+      → (extent ≡ Wide → (word : ℕ) (rest : List ℕ) → (word ≡ 233) ⊎ (word ≡ 234) → more ≢ word ∷ rest)
+      → (extent ≡ Wide → (frame rest : List ℕ) (digit : ℕ) → AreFrame frame digit → more ≢ frame ++ rest)
       → opening ≡ Plain → IsOpening extent words more opening
-
--- An opening says this head, or none.
-abbrev pub opening_head : Opening → Option Head
-opening_head Plain = None
-opening_head (Headed head) = Some head
-opening_head (Framed digit) = None
-
--- These items stand before those of the parts.
-abbrev pub opening_items : Opening → List Item
-opening_items Plain = []
-opening_items (Headed head) = []
-opening_items (Framed digit) = macro_header digit
-
--- These items stand behind those of the parts.
-abbrev pub closing_items : Opening → List Item
-closing_items Plain = []
-closing_items (Headed head) = []
-closing_items (Framed digit) = macro_trailer
 
 -- ---- contents
 
--- Behind an opening, parts that say this say this content. The places of marks count the header of a macro too.
+-- Behind an opening, parts that say this say this content. The places of marks count the seven items of the header of a
+-- macro too.
 abbrev pub said_content : Opening → List Said → ContentView
-said_content opening said = record {
-  head = opening_head opening;
-  items = opening_items opening ++ (said_items said ++ closing_items opening);
-  marks = said_marks (length (opening_items opening)) said;
-}
+said_content Plain said = record { head = None; items = said_items said; marks = said_marks 0 said }
+said_content (Headed head) said = record { head = Some head; items = said_items said; marks = said_marks 0 said }
+said_content (Framed digit) said =
+    record { head = None; items = macro_text digit (said_items said); marks = said_marks 7 said }
 
 -- The words are an opening and then words from a place on.
 pub record AreOpened (extent : Extent) (words : List ℕ) (opening : Opening) (place : ℕ) (more : List ℕ) : Type 0 where
@@ -187,31 +148,23 @@ pub record Says (extent : Extent) (words : List ℕ) (content : ContentView) : T
   pub parts : AreContentParts extent place more said
   pub content_is : content ≡ said_content opening said
 
--- The words don't begin with ECI.
-abbrev pub BeginNoEci : List ℕ → Type 0
-BeginNoEci words = (more : List ℕ) → words ≢ eci_word ∷ more
-
 -- The codewords from a place on, up to the end of the symbol, have this fault: in the wide extent ECI has no designator
 -- behind it; or no part begins there in the extent, and in the wide one they don't begin with ECI.
 pub data IsContentFault (extent : Extent) (place : ℕ) (words : List ℕ) (why : ContentFault) : Type 0 where
-  designator : (more : List ℕ) → extent ≡ Wide → BeginsNoDesignator more → words ≡ eci_word ∷ more
-      → why ≡ fault.Designator place → IsContentFault extent place words why
-  word : (of_word : WordFault) → (extent ≡ Wide → BeginNoEci words) → IsFault extent place words of_word
-      → why ≡ fault.Word of_word → IsContentFault extent place words why
+  designator : (more : List ℕ) → extent ≡ Wide
+      → ((first rest : List ℕ) (number : ℕ) → IsDesignator first number → more ≢ first ++ rest)
+      → words ≡ eci_word ∷ more → why ≡ fault.Designator place → IsContentFault extent place words why
+  word : (of_word : WordFault) → (extent ≡ Wide → (more : List ℕ) → words ≢ eci_word ∷ more)
+      → IsFault extent place words of_word → why ≡ fault.Word of_word → IsContentFault extent place words why
 
--- The words from a place on, up to the end of the symbol, are parts of a content, one after the other, and then
--- codewords with this fault.
-pub record HaveContentFault (extent : Extent) (place : ℕ) (words : List ℕ) (why : ContentFault) : Type 0 where
-  pub parts : List (Piece Said)
-  pub after : List ℕ
-  pub joined : AreJoined (IsContentPart extent) place parts after
-  pub whole : words ≡ spelled parts ++ after
-  pub faulty : IsContentFault extent (place + length (spelled parts)) after why
-
--- The words are refused with this fault in an extent: in the wide one they begin with structured append, and with no
--- head; or they are an opening and then words that have the fault.
+-- The words are refused with this fault in an extent: in the wide one they begin with structured append, 233, and with
+-- no head; or they are an opening, then parts of a content, one after the other, and then codewords that have the
+-- fault.
 pub data IsRefused (extent : Extent) (words : List ℕ) (why : ContentFault) : Type 0 where
-  no_head : (more : List ℕ) → extent ≡ Wide → words ≡ append_word ∷ more → BeginsNoHead words → why ≡ fault.Append 1
+  no_head : (more : List ℕ) → extent ≡ Wide → words ≡ 233 ∷ more
+      → ((first rest : List ℕ) (head : Head) → SpellsHead first head → words ≢ first ++ rest) → why ≡ fault.Append 1
       → IsRefused extent words why
   behind : (opening : Opening) (place : ℕ) (more : List ℕ) → AreOpened extent words opening place more
-      → HaveContentFault extent place more why → IsRefused extent words why
+      → (parts : List (Piece Said)) (after : List ℕ) → AreJoined (IsContentPart extent) place parts after
+      → more ≡ spelled parts ++ after → IsContentFault extent (place + length (spelled parts)) after why
+      → IsRefused extent words why

@@ -29,13 +29,9 @@ pub record IsGroup (words values : List ℕ) : Type 0 where
   pub words_are : words ≡ high ∷ middle ∷ low ∷ []
   pub values_are : values ≡ first ∷ second ∷ third ∷ fourth ∷ []
 
--- The value 31 unlatches.
-abbrev pub unlatch_value : ℕ
-unlatch_value = 31
-
--- The values 0 to 30 stand for the bytes 64 to 94, and 32 to 63 for themselves.
+-- The values 0 to 30 stand for the bytes 64 to 94, and 32 to 63 for themselves; 31 is the unlatch.
 abbrev pub edifact_byte : ℕ → ℕ
-edifact_byte value = if nat_lt value unlatch_value then value + 64 else value
+edifact_byte value = if nat_lt value 31 then value + 64 else value
 
 -- A run ends in one of these ways, each with its codewords and the values before the unlatch, if it has one; `after`
 -- are
@@ -48,20 +44,20 @@ pub data IsEdifactEnd (words after values : List ℕ) : Type 0 where
   -- The unlatch is the first value of a group, and takes one codeword of eight bits: the unlatch has the six highest,
   -- and
   -- the two lowest, `rest`, aren't looked at. At least two codewords follow.
-  first : (word rest : ℕ) → word ≡ 4 * unlatch_value + rest → rest < 4 → words ≡ word ∷ [] → values ≡ []
+  first : (word rest : ℕ) → word ≡ 4 * 31 + rest → rest < 4 → words ≡ word ∷ [] → values ≡ []
       → 2 ≤ length after → IsEdifactEnd words after values
   -- The unlatch is the second value of a group, and takes two codewords of sixteen bits, high byte first: the value
   -- before
   -- it has the six highest, the unlatch has six, and the four lowest, `rest`, aren't looked at. At least one codeword
   -- follows.
   second : (high low value rest : ℕ) → low < 256 → value < 64
-      → 256 * high + low ≡ 1024 * value + 16 * unlatch_value + rest → rest < 16 → words ≡ high ∷ low ∷ []
+      → 256 * high + low ≡ 1024 * value + 16 * 31 + rest → rest < 16 → words ≡ high ∷ low ∷ []
       → values ≡ value ∷ [] → 1 ≤ length after → IsEdifactEnd words after values
   -- The unlatch is the third value of a group, and takes three codewords; the fourth value, `rest`, isn't looked at.
-  third : (one two rest : ℕ) → IsGroup words (one ∷ two ∷ unlatch_value ∷ rest ∷ []) → values ≡ one ∷ two ∷ []
+  third : (one two rest : ℕ) → IsGroup words (one ∷ two ∷ 31 ∷ rest ∷ []) → values ≡ one ∷ two ∷ []
       → IsEdifactEnd words after values
   -- The unlatch is the fourth value of a group, and takes three codewords.
-  fourth : (one two three : ℕ) → IsGroup words (one ∷ two ∷ three ∷ unlatch_value ∷ [])
+  fourth : (one two three : ℕ) → IsGroup words (one ∷ two ∷ three ∷ 31 ∷ [])
       → values ≡ one ∷ two ∷ three ∷ [] → IsEdifactEnd words after values
 
 -- A run is a latch, then whole groups, then an end. No value is the unlatch but the one that ends the run. The values,
@@ -75,6 +71,6 @@ pub record IsEdifactRun (words after : List ℕ) (items : List Item) : Type 0 wh
   pub end : List ℕ
   pub last : List ℕ
   pub ended : IsEdifactEnd end after last
-  pub no_unlatch : AllByRecursion (λ value. value ≢ unlatch_value) (gathered groups ++ last)
+  pub no_unlatch : AllByRecursion (λ value. value ≢ 31) (gathered groups ++ last)
   pub whole : words ≡ latch ∷ (spelled groups ++ end)
   pub items_are : items ≡ byte_items (map edifact_byte (gathered groups ++ last))

@@ -1,16 +1,8 @@
 -- Heads: structured append and reader programming (ISO/IEC 16022, structured append, reader programming).
-use Rattle.std.specs.Prelude.{◌≡◌, ℕ, ◌+◌, ◌-◌, ◌*◌, ◌/◌, ◌%◌, ◌≤◌, List, [], ◌∷◌, ◌++◌, Option, Some, None}
+use Rattle.std.specs.Prelude.{◌≡◌, ℕ, ◌+◌, ◌-◌, ◌*◌, ◌/◌, ◌%◌, ◌≤◌, List, [], ◌∷◌, Option, Some, None}
 use Rattle.dm_words.specs.declared.contents.head.Appended.{Appended}
 use Rattle.dm_words.specs.declared.contents.head.Head.{Head}
 use Rattle.dm_words.specs.declared.contents.head.Head.TheVariants as head
-
--- Structured append is this codeword.
-abbrev pub append_word : ℕ
-append_word = 233
-
--- Reader programming is this codeword.
-abbrev pub programming_word : ℕ
-programming_word = 234
 
 -- A symbol of a sequence is one of 2 to 16 symbols, counted from 1, and each half of the file identification is 1 to
 -- 254.
@@ -33,25 +25,15 @@ IsHead (Some (head.Appended symbol)) = IsAppended symbol
 -- A head has these codewords: 234 alone for reader programming; 233, the sequence indicator and the two halves of the
 -- file identification for a symbol of a sequence. The indicator q says that it is symbol q div 16 + 1 of 17 - q mod 16.
 pub data SpellsHead (words : List ℕ) (said : Head) : Type 0 where
-  programming : words ≡ programming_word ∷ [] → said ≡ head.Programming → SpellsHead words said
+  programming : words ≡ 234 ∷ [] → said ≡ head.Programming → SpellsHead words said
   appended : (indicator : ℕ) (symbol : Appended) → IsAppended symbol
       → symbol.index ≡ indicator / 16 + 1 → symbol.count + indicator % 16 ≡ 17
-      → words ≡ append_word ∷ indicator ∷ symbol.file_high ∷ symbol.file_low ∷ [] → said ≡ head.Appended symbol
+      → words ≡ 233 ∷ indicator ∷ symbol.file_high ∷ symbol.file_low ∷ [] → said ≡ head.Appended symbol
       → SpellsHead words said
-
--- The words begin with a head, and these follow it.
-pub record BeginsHead (words : List ℕ) (said : Head) (more : List ℕ) : Type 0 where
-  pub first : List ℕ
-  pub spells : SpellsHead first said
-  pub whole : words ≡ first ++ more
-
--- The words begin with no head.
-abbrev pub BeginsNoHead : List ℕ → Type 0
-BeginsNoHead words = (said : Head) (more : List ℕ) → BeginsHead words said more → ⊥
 
 -- A head is written as these codewords.
 abbrev pub head_words : Option Head → List ℕ
 head_words None = []
-head_words (Some head.Programming) = programming_word ∷ []
+head_words (Some head.Programming) = 234 ∷ []
 head_words (Some (head.Appended symbol)) =
-    append_word ∷ (16 * (symbol.index - 1) + (17 - symbol.count)) ∷ symbol.file_high ∷ symbol.file_low ∷ []
+    233 ∷ (16 * (symbol.index - 1) + (17 - symbol.count)) ∷ symbol.file_high ∷ symbol.file_low ∷ []

@@ -5,18 +5,12 @@ use Rattle.dm_words.specs.declared.item.Item.{Item}
 use Rattle.dm_words.specs.declared.item.Item.TheVariants.{Byte, Fnc1}
 use Rattle.dm_words.specs.Messages.{byte_items}
 
--- The header of the format whose second digit is this byte: `[)>`, the record separator, the digit 0 and this one, and
--- the group separator.
-abbrev pub macro_header : ℕ → List Item
-macro_header digit = byte_items (91 ∷ 41 ∷ 62 ∷ 30 ∷ 48 ∷ digit ∷ 29 ∷ [])
-
--- The trailer: the record separator and the end of transmission.
-abbrev pub macro_trailer : List Item
-macro_trailer = byte_items (30 ∷ 4 ∷ [])
-
--- A macro stands for its header and its trailer, with this text between them.
+-- A macro stands for the header and the trailer of a format whose second digit is this byte, with this text between
+-- them. The header is `[)>`, the record separator, the digit 0 and this one, and the group separator; the trailer is
+-- the record separator and the end of transmission.
 abbrev pub macro_text : ℕ → List Item → List Item
-macro_text digit text = macro_header digit ++ (text ++ macro_trailer)
+macro_text digit text =
+    byte_items (91 ∷ 41 ∷ 62 ∷ 30 ∷ 48 ∷ digit ∷ 29 ∷ []) ++ (text ++ byte_items (30 ∷ 4 ∷ []))
 
 -- The items begin with FNC1.
 abbrev pub BeginsFnc1 : List Item → Type 0

@@ -9,7 +9,7 @@ use Rattle.dm_words.specs.declared.profile.Profile.{Profile}
 use Rattle.dm_words.specs.declared.profile.Profile.TheVariants.{Ascii, Shorter}
 use Rattle.dm_words.specs.Messages.{byte_of}
 use Rattle.dm_words.specs.Ascii.{ascii}
-use Rattle.dm_words.specs.Base256.{most_short, written}
+use Rattle.dm_words.specs.Base256.{written}
 use Rattle.dm_words.specs.Codewords.{base256_latch}
 
 -- FNC1 is among the items.
@@ -23,8 +23,7 @@ has_fnc1 (Fnc1 ∷ rest) = true
 -- than 255, but no symbol holds that many.
 abbrev pub length_numbers : ℕ → List ℕ
 length_numbers count =
-    if nat_le count most_short then count ∷ [] else
-    (most_short + count / (most_short + 1)) ∷ (count % (most_short + 1)) ∷ []
+    if nat_le count 249 then count ∷ [] else (249 + count / 250) ∷ (count % 250) ∷ []
 
 -- The bytes stand in one segment of Base 256 whose latch is the first codeword of the symbol: the latch, the length
 -- field and the bytes.

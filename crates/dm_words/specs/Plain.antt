@@ -1,7 +1,7 @@
 -- Plain codewords: each part says something, and nothing stands in them that means nothing. Readers of the field differ
 -- on empty runs, fillers and macros that don't stand first, so nothing is written with them; that is a rule of this
 -- project.
-use Rattle.std.specs.Prelude.{◌≡◌, ℕ, ◌<◌, ◌≤◌, List, [], ◌∷◌, ◌++◌, length}
+use Rattle.std.specs.Prelude.{◌≡◌, ◌≢◌, ℕ, ◌<◌, ◌≤◌, List, [], ◌∷◌, ◌++◌, length}
 use Rattle.dm_words.specs.declared.c40.set.CodeSet.{CodeSet}
 use Rattle.dm_words.specs.declared.extent.Extent.TheVariants.{Usual, Wide}
 use Rattle.dm_words.specs.declared.item.Item.{Item}
@@ -12,7 +12,7 @@ use Rattle.dm_words.specs.Base256.{IsSegment}
 use Rattle.dm_words.specs.Designators.{eci_word, IsDesignator}
 use Rattle.dm_words.specs.Edifact.{IsEdifactRun}
 use Rattle.dm_words.specs.Joined.{Piece, spelled, AreJoined}
-use Rattle.dm_words.specs.Contents.{ContentView, Said, Items, Number, AreOpened, BeginsFrame}
+use Rattle.dm_words.specs.Contents.{ContentView, Said, Items, Number, AreOpened, AreFrame}
 use Rattle.dm_words.specs.Macros.{FramesFnc1}
 use Rattle.dm_words.specs.Pads.{padded}
 use Rattle.dm_words.specs.Runs.{IsRun}
@@ -51,7 +51,8 @@ pub record ArePlain (words : List ℕ) : Type 0 where
 -- The words have no macro before FNC1, where they say these items: FNC1 would be the second codeword there, which
 -- readers take for a sign. That another way is taken is a rule of this project.
 abbrev pub FramesNoFnc1 : List ℕ → List Item → Type 0
-FramesNoFnc1 words items = FramesFnc1 items → BeginsFrame words → ⊥
+FramesNoFnc1 words items = FramesFnc1 items → (frame rest : List ℕ) (digit : ℕ) → AreFrame frame digit
+    → words ≢ frame ++ rest
 
 -- The words say the content as words that are written do: they are plain, have the identifier of its ASCII form, and no
 -- macro before FNC1.

@@ -5,7 +5,7 @@ use Rattle.dm_words.specs.declared.extent.Extent.{Extent}
 use Rattle.dm_words.specs.declared.item.Item.{Item}
 use Rattle.dm_words.specs.declared.codeword.Codeword.TheVariants as codeword
 use Rattle.dm_words.specs.declared.c40.set.CodeSet.{CodeSet}
-use Rattle.dm_words.specs.Codewords.{codeword_of, unlatch_word}
+use Rattle.dm_words.specs.Codewords.{codeword_of}
 use Rattle.dm_words.specs.Joined.{Piece, spelled, gathered}
 use Rattle.dm_words.specs.Values.{AreValues}
 
@@ -32,16 +32,16 @@ pub record IsPair (words values : List ℕ) : Type 0 where
 -- for Text; for X12 cases a, c and
 -- d do, and case b doesn't, since X12 has no shift to fill a pair with.
 pub data IsRunEnd (words after : List ℕ) : Type 0 where
-  -- The codeword Unlatch ends the run. Where one codeword is left behind it, for one last value, this is case c; none
-  -- needs to be left.
-  unlatch : words ≡ unlatch_word ∷ [] → IsRunEnd words after
+  -- The codeword Unlatch, 254, ends the run. Where one codeword is left behind it, for one last value, this is case c;
+  -- none needs to be left.
+  unlatch : words ≡ 254 ∷ [] → IsRunEnd words after
   -- No codeword ends the run where none is left in the symbol. These are cases a and b, by the number of values that
   -- are left for the last pair; a run
   -- without pairs ends so too, by a rule of this project.
   symbol_end : words ≡ [] → after ≡ [] → IsRunEnd words after
   -- No codeword ends the run where one other than Unlatch is left in the symbol: an Unlatch before it is assumed, and
   -- it is read in ASCII. This is case d.
-  last_word : (word : ℕ) → word ≢ unlatch_word → words ≡ [] → after ≡ word ∷ [] → IsRunEnd words after
+  last_word : (word : ℕ) → word ≢ 254 → words ≡ [] → after ≡ word ∷ [] → IsRunEnd words after
 
 -- A run is a latch, then pairs, then an end. The values of all pairs, joined, spell the items.
 pub record IsRun (extent : Extent) (set : CodeSet) (words after : List ℕ) (items : List Item) : Type 0 where

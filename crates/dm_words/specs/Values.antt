@@ -27,23 +27,19 @@ pub record IsShifted (set : CodeSet) (values : List ℕ) (meaning : Option Shift
   pub means : shifted_of set shift second ≡ meaning
   pub whole : values ≡ first ∷ second ∷ []
 
--- An Upper Shift is Shift 2 and the value 30.
-abbrev pub IsUpperShift : CodeSet → List ℕ → Type 0
-IsUpperShift set values = IsShifted set values (Some shifted.UpperShift)
-
 -- A character is a value of the basic set, or a shift and a value, that means this byte.
 pub data IsCharacter (set : CodeSet) (values : List ℕ) (byte : ℕ) : Type 0 where
   plain : (value : ℕ) → basic_of set value ≡ Some (basic.Character byte) → values ≡ value ∷ []
       → IsCharacter set values byte
   by_shift : IsShifted set values (Some (shifted.Character byte)) → IsCharacter set values byte
 
--- The spelling of an item is a character; Shift 2 and 27, which is FNC1; or an Upper Shift and a character, whose byte
--- it raises by 128.
+-- The spelling of an item is a character; Shift 2 and 27, which is FNC1; or an Upper Shift, which is Shift 2 and 30,
+-- and a character, whose byte it raises by 128.
 pub data IsSpelling (set : CodeSet) (values : List ℕ) (item : Item) : Type 0 where
   character : (byte : ℕ) → IsCharacter set values byte → item ≡ Byte byte → IsSpelling set values item
   fnc1 : IsShifted set values (Some shifted.Fnc1) → item ≡ Fnc1 → IsSpelling set values item
-  raised : (upper more : List ℕ) (byte : ℕ) → IsUpperShift set upper → IsCharacter set more byte → values ≡ upper
-      ++ more → item ≡ Byte (byte + 128) → IsSpelling set values item
+  raised : (upper more : List ℕ) (byte : ℕ) → IsShifted set upper (Some shifted.UpperShift) → IsCharacter set more byte
+      → values ≡ upper ++ more → item ≡ Byte (byte + 128) → IsSpelling set values item
 
 -- A filler is nothing, or one shift with no value after it, which means nothing. The standard fills with Shift 1; that
 -- any shift is passed over is a
@@ -57,22 +53,17 @@ pub data IsFiller (set : CodeSet) (values : List ℕ) : Type 0 where
 pub record IsWaiting (set : CodeSet) (values : List ℕ) : Type 0 where
   pub upper : List ℕ
   pub filler : List ℕ
-  pub is_upper : IsUpperShift set upper
+  pub is_upper : IsShifted set upper (Some shifted.UpperShift)
   pub ended : IsFiller set filler
   pub whole : values ≡ upper ++ filler
 
--- What is dropped at the end of a run is a filler; in the wide extent also an Upper Shift that waits, which some
--- writers fill with.
-pub data IsDropped (extent : Extent) (set : CodeSet) (values : List ℕ) : Type 0 where
-  filler : IsFiller set values → IsDropped extent set values
-  waiting : extent ≡ Wide → IsWaiting set values → IsDropped extent set values
-
--- The values of a run are spellings of these items, one after the other, and then what is dropped.
+-- The values of a run are spellings of these items, one after the other, and then what is dropped: a filler; in the
+-- wide extent also an Upper Shift that waits, which some writers fill with.
 pub record AreValues (extent : Extent) (set : CodeSet) (values : List ℕ) (items : List Item) : Type 0 where
   pub spellings : List (Piece Item)
   pub each : AllByRecursion (λ piece. IsSpelling set piece.words piece.what) spellings
   pub filler : List ℕ
-  pub ended : IsDropped extent set filler
+  pub ended : IsFiller set filler ⊎ ((extent ≡ Wide) × IsWaiting set filler)
   pub whole : values ≡ spelled spellings ++ filler
   pub items_are : items ≡ whats spellings
 
@@ -82,16 +73,16 @@ pub record AreValues (extent : Extent) (set : CodeSet) (values : List ℕ) (item
 pub data BeginsWithoutMeaning (set : CodeSet) (values : List ℕ) (index : ℕ) : Type 0 where
   at_once : (two more : List ℕ) → IsShifted set two None → values ≡ two ++ more → index ≡ 1
       → BeginsWithoutMeaning set values index
-  after_upper_shift : (upper two more : List ℕ) → IsUpperShift set upper → IsShifted set two None → values ≡ upper
-      ++ (two ++ more) → index ≡ 3 → BeginsWithoutMeaning set values index
+  after_upper_shift : (upper two more : List ℕ) → IsShifted set upper (Some shifted.UpperShift)
+      → IsShifted set two None → values ≡ upper ++ (two ++ more) → index ≡ 3 → BeginsWithoutMeaning set values index
 
 -- The values begin with an Upper Shift and then FNC1 or an Upper Shift, which means nothing by a rule of this project.
 pub record BeginsWrongUpperShift (set : CodeSet) (values : List ℕ) : Type 0 where
   pub upper : List ℕ
   pub two : List ℕ
   pub more : List ℕ
-  pub is_upper : IsUpperShift set upper
-  pub is_wrong : IsShifted set two (Some shifted.Fnc1) ⊎ IsUpperShift set two
+  pub is_upper : IsShifted set upper (Some shifted.UpperShift)
+  pub is_wrong : IsShifted set two (Some shifted.Fnc1) ⊎ IsShifted set two (Some shifted.UpperShift)
   pub whole : values ≡ upper ++ (two ++ more)
 
 -- These values can follow the last whole spelling of a run, whose values are 0 to 39.

@@ -1,7 +1,7 @@
 -- How a content is read from the left: its opening, a designator, and one part after the other.
 use Rattle.std.specs.Prelude.{ℕ, suc, ◌+◌, ◌-◌, ◌*◌, ◌/◌, ◌%◌, List, [], ◌∷◌, ◌++◌, length, drop, Option}
 use Rattle.std.specs.Prelude.{Some, None, Result, Ok, Err, Bool, true, false, slice_get, nat_le, ◌==◌, ◌&&◌}
-use Rattle.std.specs.Prelude.{if◌then◌else◌}
+use Rattle.std.specs.Prelude.{if◌then◌else◌, ◌≡◌, ◌≢◌, ◌⊎◌}
 use Rattle.dm_words.specs.declared.extent.Extent.{Extent}
 use Rattle.dm_words.specs.declared.extent.Extent.TheVariants.{Usual, Wide}
 use Rattle.dm_words.specs.declared.item.Item.{Item}
@@ -19,11 +19,10 @@ use Rattle.dm_words.specs.declared.contents.opening.Frame.{Frame}
 use Rattle.dm_words.specs.declared.contents.opening.Opened.{Opened}
 use Rattle.dm_words.specs.declared.contents.opening.Opening.{Opening}
 use Rattle.dm_words.specs.declared.contents.opening.Opening.TheVariants.{Plain, Headed, Framed}
-use Rattle.dm_words.specs.Codewords.{codeword_of, unlatch_word}
+use Rattle.dm_words.specs.Codewords.{codeword_of}
 use Rattle.dm_words.specs.Designators.{eci_word, most_assigned}
-use Rattle.dm_words.specs.Heads.{append_word, programming_word}
-use Rattle.dm_words.specs.Contents.{ContentView, with_mark, Said, Items, Number, said_items, said_marks, opening_head}
-use Rattle.dm_words.specs.Contents.{opening_items, closing_items}
+use Rattle.dm_words.specs.Messages.{byte_items}
+use Rattle.dm_words.specs.Contents.{ContentView, with_mark, Said, Items, Number, said_items, said_marks, AreFrame}
 use Rattle.dm_words.specs.inner.Scan.Walk.{Step, Takes, Stops, walk}
 use Rattle.dm_words.specs.inner.Scan.Prefixes.{digit_by, first_part}
 
@@ -90,8 +89,8 @@ append_by _ _ _ = None
 abbrev pub head_by : Option ℕ → List ℕ → Option Head
 head_by None words = None
 head_by (Some word) words =
-    if word == programming_word then Some head.Programming else
-    if word == append_word then append_by (slice_get words 1) (slice_get words 2) (slice_get words 3) else None
+    if word == 234 then Some head.Programming else
+    if word == 233 then append_by (slice_get words 1) (slice_get words 2) (slice_get words 3) else None
 
 -- The words begin with this head, or with none.
 abbrev pub first_head : List ℕ → Option Head
@@ -117,7 +116,7 @@ moved more (Some frame) = Some (record { count = more + frame.count; digit = fra
 -- The codewords are an empty run: a latch with this meaning, and an unlatch.
 abbrev pub is_empty_run : Option Codeword → Option ℕ → Bool
 is_empty_run latch None = false
-is_empty_run latch (Some unlatch) = is_latch latch && (unlatch == unlatch_word)
+is_empty_run latch (Some unlatch) = is_latch latch && (unlatch == 254)
 
 -- A macro of this digit is a frame; where there is none, the other is.
 abbrev pub frame_by : Option ℕ → Option Frame → Option Frame
@@ -132,10 +131,22 @@ first_frame (word ∷ next ∷ more) =
     frame_by (digit_by (codeword_of word))
     (if is_empty_run (codeword_of word) (Some next) then moved 2 (first_frame more) else None)
 
+-- The words don't begin with ECI.
+abbrev pub BeginNoEci : List ℕ → Type 0
+BeginNoEci words = (more : List ℕ) → words ≢ 241 ∷ more
+
+-- No frame begins the words.
+abbrev pub BeginsNoFrame : List ℕ → Type 0
+BeginsNoFrame words = (frame rest : List ℕ) (digit : ℕ) → AreFrame frame digit → words ≢ frame ++ rest
+
+-- The words begin with neither structured append nor reader programming.
+abbrev pub BeginsNoHeadWord : List ℕ → Type 0
+BeginsNoHeadWord words = (word : ℕ) (rest : List ℕ) → (word ≡ 233) ⊎ (word ≡ 234) → words ≢ word ∷ rest
+
 -- The words begin with structured append.
 abbrev pub begins_append : List ℕ → Bool
 begins_append [] = false
-begins_append (word ∷ more) = word == append_word
+begins_append (word ∷ more) = word == 233
 
 -- A head opens the content, or a frame, or nothing; none does where structured append begins no head.
 abbrev pub opened_by : Option Head → Bool → Option Frame → Option Opened
@@ -201,6 +212,32 @@ content_on extent content place words =
     let found =
     walk (first_content_part extent) None (suc (length words)) place words in content_to (extended content found.taken)
     found.why
+
+-- The header of the format whose second digit is this byte.
+abbrev pub macro_header : ℕ → List Item
+macro_header digit = byte_items (91 ∷ 41 ∷ 62 ∷ 30 ∷ 48 ∷ digit ∷ 29 ∷ [])
+
+-- The trailer.
+abbrev pub macro_trailer : List Item
+macro_trailer = byte_items (30 ∷ 4 ∷ [])
+
+-- An opening says this head, or none.
+abbrev pub opening_head : Opening → Option Head
+opening_head Plain = None
+opening_head (Headed head) = Some head
+opening_head (Framed digit) = None
+
+-- These items stand before those of the parts.
+abbrev pub opening_items : Opening → List Item
+opening_items Plain = []
+opening_items (Headed head) = []
+opening_items (Framed digit) = macro_header digit
+
+-- These items stand behind those of the parts.
+abbrev pub closing_items : Opening → List Item
+closing_items Plain = []
+closing_items (Headed head) = []
+closing_items (Framed digit) = macro_trailer
 
 -- These items stand before those of the parts, and no mark does.
 abbrev pub opening_content : Opening → ContentView

@@ -1,12 +1,15 @@
 -- What the private functions that read a content part by part give.
 use Rattle.std.specs.Prelude.{◌≡◌, ℕ, ◌+◌, ◌*◌, ◌≤◌, List, ◌++◌, length, take, drop, Option, Some, None, Result, Ok}
 use Rattle.std.specs.Prelude.{Err}
+use Rattle.dm_words.specs.declared.extent.Extent.{Extent}
 use Rattle.dm_words.specs.declared.extent.Extent.TheVariants.{Wide}
 use Rattle.dm_words.specs.declared.item.Item.{Item}
 use Rattle.dm_words.specs.declared.contents.fault.ContentFault.{ContentFault}
 use Rattle.dm_words.specs.declared.contents.reading.Holding.{Holding}
 use Rattle.dm_words.specs.declared.contents.mark.Mark.{Mark}
-use Rattle.dm_words.specs.Contents.{ContentView, Said, AreMarks, AreContentParts, HaveContentFault, eci_count}
+use Rattle.dm_words.specs.Joined.{Piece, spelled, AreJoined}
+use Rattle.dm_words.specs.Contents.{ContentView, Said, AreMarks, AreContentParts, IsContentPart, IsContentFault}
+use Rattle.dm_words.specs.Contents.{eci_count}
 use Rattle.dm_words.specs.Designations.{designation, designations}
 use Rattle.dm_words.specs.inner.Scan.Walk.{Step, Takes, Stops}
 use Rattle.dm_words.specs.inner.Scan.Results.{HasRoomAt}
@@ -43,6 +46,15 @@ IsDesignationTaken (Ok None) before old new step = (step ≡ Stops None) × (new
 IsDesignationTaken (Ok (Some n)) before old new step =
     (said : Said) × (step ≡ Takes n said) × (new ≡ old ++ designation before said)
 IsDesignationTaken (Err why) before old new step = step ≡ Stops (Some why)
+
+-- The words from a place on, up to the end of the symbol, are parts of a content, one after the other, and then
+-- codewords with this fault.
+pub record HaveContentFault (extent : Extent) (place : ℕ) (words : List ℕ) (why : ContentFault) : Type 0 where
+  pub parts : List (Piece Said)
+  pub after : List ℕ
+  pub joined : AreJoined (IsContentPart extent) place parts after
+  pub whole : words ≡ spelled parts ++ after
+  pub faulty : IsContentFault extent (place + length (spelled parts)) after why
 
 -- The words from an index on are parts of a content up to the end, and these are their designators; or they have a
 -- fault.

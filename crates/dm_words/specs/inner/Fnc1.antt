@@ -2,6 +2,7 @@
 use Rattle.std.specs.Prelude.{ℕ, List, [], ◌∷◌, length, Bool, true, false, Option, Some}
 use Rattle.std.specs.Prelude.{◌==◌, ◌&&◌, nat_le, if◌then◌else◌}
 use Rattle.dm_words.specs.declared.codeword.Codeword.{Codeword}
+use Rattle.dm_words.specs.declared.contents.mark.Mark.{Mark}
 use Rattle.dm_words.specs.declared.codeword.Codeword.TheVariants as codeword
 use Rattle.dm_words.specs.Codewords.{codeword_of, fnc1_word}
 
@@ -16,6 +17,10 @@ is_alone (Some (codeword.Macro digit)) after = true
 is_alone (Some (codeword.Latch set)) after = after == 0
 is_alone (Some codeword.Edifact) after = nat_le after 1
 is_alone _ after = false
+
+-- So much is added where there is a mark.
+abbrev pub marks_number : List Mark → ℕ
+marks_number marks = if length marks == 0 then 0 else 3
 
 -- The words behind a head, or all of them where there is none, have this number.
 abbrev pub fnc1_number : List ℕ → ℕ

@@ -10,7 +10,6 @@ use Rattle.dm_words.specs.declared.smallest.values.Low.{Low}
 use Rattle.dm_words.specs.declared.smallest.values.Low.TheVariants.{Plain, Shifted}
 use Rattle.std.specs.List.{AllByRecursion}
 use Rattle.dm_words.specs.Joined.{Piece, spelled, gathered, AreJoined}
-use Rattle.dm_words.specs.Codewords.{unlatch_word}
 use Rattle.dm_words.specs.Runs.{IsPair}
 use Rattle.dm_words.specs.Edifact.{IsGroup}
 use Rattle.dm_words.specs.Base256.{written, IsLengthField}
@@ -163,7 +162,7 @@ pub record IsFieldWritten (total count : ℕ) (old new : List ℕ) : Type 0 wher
 -- No codewords follow, or the first isn't the unlatch.
 abbrev pub NoUnlatchFirst : List ℕ → Type 0
 NoUnlatchFirst [] = Unit {0}
-NoUnlatchFirst (word ∷ more) = word ≢ unlatch_word
+NoUnlatchFirst (word ∷ more) = word ≢ 254
 
 -- A part of these items was written, in a symbol that has `total` data codewords, whatever follows that is no unlatch.
 pub record IsPartWritten (extent : Extent) (total : ℕ) (old new : List ℕ) (items : List Item) : Type 0 where

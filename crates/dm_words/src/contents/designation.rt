@@ -4,9 +4,9 @@ ghost use Rattle.std.specs.Prelude.{◌≡◌, ℕ, ◌+◌, ◌*◌, ◌<◌, �
 ghost use Rattle.std.specs.Prelude.{◌≢◌, get_or};
 ghost use Rattle.dm_words.specs.Designations.{AreDesignations};
 ghost use Rattle.dm_words.specs.Designators.{eci_word};
-ghost use Rattle.dm_words.specs.Contents.{BeginNoEci, eci_count};
+ghost use Rattle.dm_words.specs.Contents.{eci_count};
 ghost use Rattle.dm_words.specs.inner.ContentsAt.{AreDesignationsFrom, IsDesignationTaken};
-ghost use Rattle.dm_words.specs.inner.ContentScan.{first_designator, first_content_part, mark_by};
+ghost use Rattle.dm_words.specs.inner.ContentScan.{BeginNoEci, first_designator, first_content_part, mark_by};
 
 use crate::contents::designator::{ECI, first_designator};
 use crate::contents::fault::ContentFault;

@@ -3,12 +3,12 @@
 ghost use Rattle.std.specs.Prelude.{◌≡◌, ◌+◌, ◌*◌, ◌≤◌, ◌<◌, ◌++◌, [], length, take, drop, List, None, OnOk};
 ghost use Rattle.std.specs.Prelude.{OnErr, IfOk};
 ghost use Rattle.dm_words.specs.Messages.{most_spelled};
-ghost use Rattle.dm_words.specs.Contents.{BeginNoEci, HasMarkRoom, opening_head, opening_items, closing_items};
+ghost use Rattle.dm_words.specs.Contents.{HasMarkRoom};
 ghost use Rattle.dm_words.specs.ContentResults.{IsContentResult};
 ghost use Rattle.dm_words.specs.Outcomes.{outcome};
 ghost use Rattle.dm_words.specs.inner.Scan.Results.{HasRoomAt};
 ghost use Rattle.dm_words.specs.inner.ContentScan.{first_designator, mark_by, first_content_part, content_on};
-ghost use Rattle.dm_words.specs.inner.ContentScan.{items_with};
+ghost use Rattle.dm_words.specs.inner.ContentScan.{BeginNoEci, closing_items, items_with, opening_head, opening_items};
 ghost use Rattle.dm_words.specs.inner.ContentsAt.{held_outcome, IsContentAt, IsContentPartTaken};
 
 use crate::codeword::FIRST_PAD;

@@ -1,6 +1,7 @@
 -- What is a prefix of a list: a part of the words, a pair, an item among the values of a run.
-use Rattle.std.specs.Prelude.{ℕ, ◌+◌, ◌-◌, ◌*◌, ◌/◌, ◌%◌, List, [], ◌∷◌, length, take, map, Option}
+use Rattle.std.specs.Prelude.{ℕ, ◌+◌, ◌-◌, ◌*◌, ◌/◌, ◌%◌, ◌<◌, List, [], ◌∷◌, length, take, map, Option}
 use Rattle.std.specs.Prelude.{Some, None, Bool, true, false, nat_lt, ◌==◌, if◌then◌else◌}
+use Rattle.std.specs.List.{AllByRecursion}
 use Rattle.dm_words.specs.declared.extent.Extent.{Extent}
 use Rattle.dm_words.specs.declared.extent.Extent.TheVariants.{Usual, Wide}
 use Rattle.dm_words.specs.declared.item.Item.{Item}
@@ -18,12 +19,11 @@ use Rattle.dm_words.specs.declared.c40.pair.PairsEnd.{PairsEnd}
 use Rattle.dm_words.specs.declared.c40.pair.PairsEnd.TheVariants as stop
 use Rattle.dm_words.specs.declared.c40.value.Rest.{Rest}
 use Rattle.dm_words.specs.declared.c40.value.Rest.TheVariants as rest
-use Rattle.dm_words.specs.Codewords.{codeword_of, unlatch_word}
+use Rattle.dm_words.specs.Codewords.{codeword_of}
 use Rattle.dm_words.specs.CodeSets.{basic_of, shifted_of}
 use Rattle.dm_words.specs.RunFaults.{pair_place}
-use Rattle.dm_words.specs.Base256.{random_at, most_short, long_count}
 use Rattle.dm_words.specs.Messages.{byte_items}
-use Rattle.dm_words.specs.Edifact.{unlatch_value, edifact_byte}
+use Rattle.dm_words.specs.Edifact.{edifact_byte}
 use Rattle.dm_words.specs.inner.Scan.Walk.{Step, Takes, Stops, Walked, walk_all, flat}
 
 -- ---- the values of a run, each below 40
@@ -80,8 +80,8 @@ pair_by number = if number ==
 -- The words begin with a pair, or the pairs end there.
 abbrev pub first_pair : ℕ → List ℕ → Step (List ℕ) PairsEnd
 first_pair place [] = Stops stop.SymbolEnd
-first_pair place (high ∷ []) = if high == unlatch_word then Stops stop.Unlatch else Stops stop.SymbolEnd
-first_pair place (high ∷ low ∷ more) = if high == unlatch_word then Stops stop.Unlatch else pair_by (256 * high + low)
+first_pair place (high ∷ []) = if high == 254 then Stops stop.Unlatch else Stops stop.SymbolEnd
+first_pair place (high ∷ low ∷ more) = if high == 254 then Stops stop.Unlatch else pair_by (256 * high + low)
 
 -- ---- the run
 
@@ -142,6 +142,18 @@ run_behind extent set place words = let pairs =
 
 -- ---- segments of Base 256
 
+-- A place of the symbol has this pseudo-random number.
+abbrev pub random_at : ℕ → ℕ
+random_at place = (149 * place) % 255 + 1
+
+-- Each number is 0 to 255.
+abbrev pub AreBytes : List ℕ → Type 0
+AreBytes numbers = AllByRecursion (λ number. number < 256) numbers
+
+-- A length field of two numbers says that there are this many bytes.
+abbrev pub long_count : ℕ → ℕ → ℕ
+long_count first second = 250 * (first - 249) + second
+
 -- A codeword at a place stands for this value.
 abbrev pub plain_at : ℕ → ℕ → ℕ
 plain_at place word = (word + 256 - random_at place) % 256
@@ -162,7 +174,7 @@ segment_by place field count values =
 abbrev pub long_segment : ℕ → ℕ → List ℕ → Step (List Item) (Option WordFault)
 long_segment place first [] = Stops (Some (fault.Length place))
 long_segment place first (second ∷ values) =
-    if nat_lt most_short second then Stops (Some (fault.Length place)) else segment_by place 2
+    if nat_lt 249 second then Stops (Some (fault.Length place)) else segment_by place 2
     (long_count first second) values
 
 -- The values of all words behind a latch at a place decide which segment is taken.
@@ -170,7 +182,7 @@ unfoldable pub segment_behind : ℕ → List ℕ → Step (List Item) (Option Wo
 segment_behind place [] = Stops (Some (fault.Length place))
 segment_behind place (first ∷ values) =
     if first == 0 then Takes (2 + length values) (byte_items values) else
-    if nat_lt most_short first then long_segment place first values else
+    if nat_lt 249 first then long_segment place first values else
     segment_by place 1 first values
 
 -- ---- runs of EDIFACT
@@ -185,10 +197,10 @@ group_values high middle low =
 -- is the unlatch, it goes on as `rest`.
 abbrev pub group_by : List ℕ → ℕ × List ℕ → ℕ × List ℕ
 group_by (first ∷ second ∷ third ∷ fourth ∷ []) rest =
-    if first == unlatch_value then (1, []) else
-    if second == unlatch_value then (2, first ∷ []) else
-    if third == unlatch_value then (3, first ∷ second ∷ []) else
-    if fourth == unlatch_value then (3, first ∷ second ∷ third ∷ []) else
+    if first == 31 then (1, []) else
+    if second == 31 then (2, first ∷ []) else
+    if third == 31 then (3, first ∷ second ∷ []) else
+    if fourth == 31 then (3, first ∷ second ∷ third ∷ []) else
     (3 + rest.0, first ∷ second ∷ third ∷ fourth ∷ rest.1)
 group_by _ rest = rest
 
