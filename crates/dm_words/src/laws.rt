@@ -20,7 +20,7 @@ ghost use Rattle.dm_words.specs.Spells.{Spells};
 ghost use Rattle.dm_words.specs.Laws.{AreCodewords, AreRunValues, BeginsNoSpelling};
 ghost use Rattle.dm_words.specs.Laws.{AreMacro, SomeSpell};
 
-use crate::limits::{LARGEST_ROOM, MESSAGE_ROOM, MOST_ITEMS};
+use crate::limits::{LARGEST_MARKS, LARGEST_ROOM, MESSAGE_ROOM, MOST_ITEMS, MOST_MARKS};
 use dm_layout::MOST_GRID_DATA;
 use dm_layout::symbols::MOST_DATA;
 
@@ -97,12 +97,15 @@ pub fn tables_are_sound()
 
 /// The most data codewords of a square are those of the largest one. What is read of them in the usual extent has two
 /// items for each, and a message has room for the most that are read in the wide extent; `LARGEST_ROOM` is room for the
-/// most that are read there of a symbol of any shape. `MOST_GRID_DATA` and `MOST_DATA` are constants of `dm_layout`,
-/// whose laws `constants_are_the_limits` say the same of them.
+/// most that are read there of a symbol of any shape. `MOST_MARKS` and `LARGEST_MARKS` are one mark for each two data
+/// codewords. `MOST_GRID_DATA` and `MOST_DATA` are constants of `dm_layout`, whose laws `constants_are_the_limits` say
+/// the same of them.
 pub fn limits_are_those_of_the_table()
     ensures data { MOST_GRID_DATA ≡ most_grid_data }
     ensures largest { MOST_DATA ≡ most_data }
     ensures items { MOST_ITEMS ≡ most_spelled Extent.Usual most_grid_data }
     ensures room { MESSAGE_ROOM ≡ most_spelled Extent.Wide most_grid_data }
     ensures largest_room { LARGEST_ROOM ≡ most_spelled Extent.Wide most_data }
+    ensures marks { 2 * MOST_MARKS ≡ most_grid_data }
+    ensures largest_marks { 2 * LARGEST_MARKS ≡ most_data }
 {}

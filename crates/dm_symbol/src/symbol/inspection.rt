@@ -1,13 +1,13 @@
 //! Inspection of a symbol of any size: its codewords before and after they are restored, whether it can be read or not.
 
 ghost use Rattle.std.specs.Prelude.{◌≡◌, ◌≤◌, List, [], IfSome, IsTrue, IsFalse, Some, length, map, option_map};
-ghost use Rattle.std.specs.Prelude.{ℕ};
+ghost use Rattle.std.specs.Prelude.{ℕ, replicate};
 ghost use Rattle.dm_layout.specs.symbols.Sizes.{codeword_count};
 ghost use Rattle.dm_layout.specs.symbols.Holding.{Holds};
 ghost use Rattle.dm_layout.specs.symbols.Words.{first_words};
 ghost use Rattle.dm_symbol.specs.Dealings.{IsDealtTwoWays};
 ghost use Rattle.dm_symbol.specs.Doubt.{erased_in};
-ghost use Rattle.dm_symbol.specs.SymbolBlocks.{AreOfSize};
+ghost use Rattle.dm_symbol.specs.SymbolBlocks.{AreOfSize, words_with};
 ghost use Rattle.dm_symbol.specs.SymbolReading.{AreBlocksMended, AreRestoredBy};
 ghost use Rattle.dm_symbol.specs.SymbolInspection.{IsSymbolInspection};
 ghost use Rattle.dm_symbol.specs.inner.Marks.{marked_in};
@@ -44,10 +44,12 @@ pub struct SymbolInspectionIn<const WORDS: usize> {
 pub type SymbolInspection = SymbolInspectionIn<MOST_CODEWORDS>;
 
 impl<const WORDS: usize> SymbolInspectionIn<WORDS> {
-    /// Gives an inspection with no block in it, and with room for the codewords of this size, into which
+    /// Gives an inspection with no block in it, and with codewords of this size that are all 0, into which
     /// [`inspect_symbol_to`] can inspect.
     pub fn new(size: SymbolSize) -> SymbolInspectionIn<WORDS>
         requires { codeword_count size ≤ WORDS }
+        ensures held { result.held ≡ words_with size (replicate (codeword_count size) 0) }
+        ensures mended { result.mended ≡ words_with size (replicate (codeword_count size) 0) }
         ensures blocks { result.blocks.items ≡ [] }
         ensures dealing { result.dealing ≡ Dealing.Standard }
         ensures border { result.border_faults ≡ 0 }
