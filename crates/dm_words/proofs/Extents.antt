@@ -1,7 +1,7 @@
 -- What the wide extent reads of what the usual one reads.
 use Rattle.dm_words.proofs.Names.{◌≡◌, ℕ, ◌+◌, List, [], ◌∷◌, ◌++◌, length, refl, sym, ap, subst, ◌∙◌, Extent, Usual}
 use Rattle.dm_words.proofs.Names.{Wide, Item, CodeSet, Opening, Plain, Piece, spelled, AreJoined, inl, inr}
-use Rattle.dm_words.proofs.Names.{AreValues, IsPart, run, segment, edifact, ContentView, Said, IsContentPart}
+use Rattle.dm_words.proofs.Names.{IsPart, run, segment, edifact, ContentView, Said, IsContentPart}
 use Rattle.dm_words.proofs.Names.{part, mark, AreContentParts, IsOpening, headed, framed, plain, said_content, Says}
 use Rattle.dm_words.proofs.Names.{BeginsNoFrame, arith, nat_tests}
 use Rattle.dm_words.specs.Parts.{ascii}
@@ -21,14 +21,6 @@ part_wider place words after items (ascii u) = ascii u
 part_wider place words after items (segment s) = segment s
 part_wider place words after items (edifact is r) = edifact refl r
 part_wider place words after items (run set r) =
-    let v : AreValues Wide set _ items = record {
-      spellings = r.values.spellings;
-      each = r.values.each;
-      filler = r.values.filler;
-      ended = dropped_wider set r.values.filler r.values.ended;
-      whole = r.values.whole;
-      items_are = r.values.items_are;
-    } in
     run set (record {
       latch = r.latch;
       is_latch = r.is_latch;
@@ -38,7 +30,12 @@ part_wider place words after items (run set r) =
       ended =
           r.ended;
       whole = r.whole;
-      values = v;
+      spellings = r.spellings;
+      each_spelling = r.each_spelling;
+      filler = r.filler;
+      dropped = dropped_wider set r.filler r.dropped;
+      values = r.values;
+      items_are = r.items_are;
     })
 
 -- Parts in the usual extent are parts in the wide one.

@@ -216,14 +216,12 @@ alone_part start w after (Some (codeword.Latch set)) e is other =
       end = [];
       ended = last_word 232 (λ same. absurd (omega (arith, same))) refl refl;
       whole = refl;
-      values = record {
-        spellings = [];
-        each = tt;
-        filler = [];
-        ended = inl (nothing refl);
-        whole = refl;
-        items_are = refl;
-      };
+      spellings = [];
+      each_spelling = tt;
+      filler = [];
+      dropped = inl (nothing refl);
+      values = refl;
+      items_are = refl;
     } in
     (Items [], part [] (run set (subst (λ (l : List ℕ). IsRun Wide set (w ∷ []) (232 ∷ l) []) (sym none) empty)) refl)
 alone_part start w after (Some codeword.Edifact) e is other =

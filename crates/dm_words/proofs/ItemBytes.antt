@@ -79,7 +79,7 @@ pub part_items : (extent : Extent) (place : ℕ) (words after : List ℕ) (items
     → IsPart extent place words after items → AreItems items
 part_items extent place words after items (ascii u) = unit_items words items u
 part_items extent place words after items (run set r) =
-    rw r.values.items_are (spellings_items set r.values.spellings r.values.each)
+    rw r.items_are (spellings_items set r.spellings r.each_spelling)
 part_items extent place words after items (segment s) = rw s.items_are (bytes_items s.bytes s.in_range)
 part_items extent place words after items (edifact is r) =
     rw r.items_are (edifact_values_items (gathered r.groups ++ r.last)

@@ -3,7 +3,7 @@
 use Rattle.dm_words.proofs.Names.{◌≡◌, ◌≢◌, inl, inr, ℕ, zero, suc, ◌+◌, ◌-◌, ◌*◌, ◌/◌, ◌%◌, ◌<◌, ◌≤◌, List, [], ◌∷◌}
 use Rattle.dm_words.proofs.Names.{◌++◌, length, ap, arith, true, cond, ltb, AllByRecursion, nat_le, cases_lt}
 use Rattle.dm_words.proofs.Names.{nat_tests, length-append, Extent, Wide, Item, Byte, CodeSet, Piece, spelled}
-use Rattle.dm_words.proofs.Names.{gathered, whats, IsAsciiUnit, IsSpelling, nothing, lone_shift, AreValues}
+use Rattle.dm_words.proofs.Names.{gathered, whats, IsAsciiUnit, IsSpelling, nothing, lone_shift}
 use Rattle.dm_words.proofs.Names.{IsRunEnd, IsRun, to_the_end, short, long, IsSegment, byte_items, IsEdifactRun}
 use Rattle.dm_words.proofs.Names.{IsPart, run, segment, edifact, set_values, unit_cost, leave}
 use Rattle.dm_words.specs.Parts.{ascii}
@@ -128,20 +128,21 @@ module _ (least : List Item → ℕ) (owed : CodeSet → ℕ → List Item → �
   dropped_few extent set vs h1 = grind (arith, nat_tests, nothing, lone_shift)
 
   -- The values of pairs are paid, and the latch.
-  values_lower : (extent : Extent) (set : CodeSet) (vs : List ℕ) (items m : List Item) (p : ℕ)
-      → AreValues extent set vs items → length vs ≡ 3 * p
+  values_lower : (extent : Extent) (set : CodeSet) (words after : List ℕ) (items m : List Item) (p : ℕ)
+      (v : IsRun extent set words after items) → length (gathered v.pairs) ≡ 3 * p
       → least (items ++ m) ≤ 1 + 2 * p + leave 1 (least m)
-  values_lower extent set vs items m p v e =
-      let few = dropped_few extent set v.filler v.ended in
+  values_lower extent set words after items m p v e =
+      let few = dropped_few extent set v.filler v.dropped in
       let f = length v.filler in
       let l : length (spelled v.spellings) + f
-      ≡ 3 * p = omega (arith, ap length v.whole, length-append (spelled v.spellings) v.filler, e) in
+      ≡ 3 * p = omega (arith, ap length v.values, length-append (spelled v.spellings) v.filler, e) in
       rw v.items_are (elim (cases_lt 0 f) [
-        | inr none ↦ whole_run set v.spellings p m v.each (omega (arith, l, none))
+        | inr none ↦ whole_run set v.spellings p m v.each_spelling (omega (arith, l, none))
         | inl some ↦ elim (cases_lt 2 f) [
-          | inr le ↦ (let a = front set v.spellings m v.each f 1 (p + 1) some le (omega (arith, l)) in omega (arith, a))
+          | inr le ↦ (let a =
+              front set v.spellings m v.each_spelling f 1 (p + 1) some le (omega (arith, l)) in omega (arith, a))
           | inl more ↦ (let a =
-              whole_run set v.spellings (p - 1) m v.each (omega (arith, l, few, more)) in omega
+              whole_run set v.spellings (p - 1) m v.each_spelling (omega (arith, l, few, more)) in omega
               (arith, a, l, few, more))
         ]
       ])
@@ -158,7 +159,7 @@ module _ (least : List Item → ℕ) (owed : CodeSet → ℕ → List Item → �
       let room = pairs_room r.pairs r.each in
       let p = length (spelled r.pairs) / 2 in
       let whole : length (gathered r.pairs) ≡ 3 * p = omega (arith, room) in
-      let v = values_lower extent set (gathered r.pairs) items m p r.values whole in
+      let v = values_lower extent set words after items m p r whole in
       let e = end_lower r.end after (least m) r.ended le in
       omega (arith, v, e, room, ap length r.whole, length-append (spelled r.pairs) r.end)
 

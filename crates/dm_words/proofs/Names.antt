@@ -16,14 +16,14 @@ pub use Rattle.dm_words.specs.Contents.{behind, eci_count, framed, headed, mark,
 pub use Rattle.dm_words.specs.Contents.{part, plain, said_content, said_items, said_marks, word}
 pub use Rattle.dm_words.specs.Designations.{AreDesignations, designation, designations, of_content, of_refused}
 pub use Rattle.dm_words.specs.Designators.{IsDesignator, designator, eci_word, most_assigned, one, three, two}
-pub use Rattle.dm_words.specs.Edifact.{IsEdifactEnd, IsEdifactRun, IsGroup, edifact_byte, few_left, first, fourth}
+pub use Rattle.dm_words.specs.Edifact.{IsEdifactEnd, IsEdifactRun, IsGroup, few_left, first, fourth}
 pub use Rattle.dm_words.specs.Edifact.{second, third}
 pub use Rattle.dm_words.specs.Faults.{left_out, macro_behind}
 pub use Rattle.dm_words.specs.Heads.{IsHead, SpellsHead, appended, head_words, programming}
-pub use Rattle.dm_words.specs.Joined.{AreJoined, Piece, gathered, spelled, whats}
+pub use Rattle.dm_words.specs.Joined.{AreJoined, Piece, gathered, spelled}
 pub use Rattle.dm_words.specs.Laws.{AreCodewords, AreRunValues, BeginsNoSpelling}
 pub use Rattle.dm_words.specs.Macros.{BeginsFnc1, FramesFnc1, macro_text}
-pub use Rattle.dm_words.specs.Messages.{IsItem, IsMessage, byte_items, byte_of, most_data, most_spelled}
+pub use Rattle.dm_words.specs.Messages.{IsItem, IsMessage, byte_of, most_data, most_spelled}
 pub use Rattle.dm_words.specs.NormalForm.{has_fnc1, length_numbers, normal_form, one_segment, shorter}
 pub use Rattle.dm_words.specs.Pads.{further_pads, padded, pads}
 pub use Rattle.dm_words.specs.Parts.{AreParts, IsEnd, IsPart, edifact, pad, run, segment}
@@ -33,7 +33,7 @@ pub use Rattle.dm_words.specs.Smallest.{ArePads, IsPlainestContent, IsSmaller, I
 pub use Rattle.dm_words.specs.Smallest.{SaysThenPads}
 pub use Rattle.dm_words.specs.Spells.{Spells}
 pub use Rattle.dm_words.specs.Symbology.{IsFnc1Number, IsIdentifier}
-pub use Rattle.dm_words.specs.Values.{AreValues, IsCharacter, IsFiller, IsRest, IsRunValue, IsShifted, IsSpelling}
+pub use Rattle.dm_words.specs.Values.{IsCharacter, IsFiller, IsRest, IsRunValue, IsShifted, IsSpelling}
 pub use Rattle.dm_words.specs.Values.{by_shift, lone_shift, nothing, waiting}
 pub use Rattle.dm_words.specs.declared.ascii.Unit.{Unit}
 pub use Rattle.dm_words.specs.declared.c40.pair.PairsEnd.{PairsEnd}
@@ -82,12 +82,12 @@ pub use Rattle.dm_words.specs.inner.Costs.{segment_cost, set_values, shift_value
 pub use Rattle.dm_words.specs.inner.Costs.{unit_cost, values_before, with_ascii}
 pub use Rattle.dm_words.specs.inner.Fnc1.{fnc1_number, is_alone, marks_number}
 pub use Rattle.dm_words.specs.inner.MarkedForms.{is_plain}
-pub use Rattle.dm_words.specs.inner.Scan.Prefixes.{AreBytes, long_count, random_at}
+pub use Rattle.dm_words.specs.inner.Scan.Prefixes.{AreBytes, byte_items, edifact_byte, long_count, random_at}
 pub use Rattle.dm_words.specs.inner.Scan.Prefixes.{edifact_items, end_length, first_pair, first_part, first_raised}
 pub use Rattle.dm_words.specs.inner.Scan.Prefixes.{first_spelling, group_by, group_values, is_one_word, items_in}
 pub use Rattle.dm_words.specs.inner.Scan.Prefixes.{pairs_in, part_by, run_fault, run_unless}
 pub use Rattle.dm_words.specs.inner.Scan.Results.{item_words, unit_items, unit_words}
-pub use Rattle.dm_words.specs.inner.Scan.Walk.{Step, Stops, Takes, Walked, and_before, flat}
+pub use Rattle.dm_words.specs.inner.Scan.Walk.{Step, Stops, Takes, Walked, and_before, flat, whats}
 pub use Rattle.dm_words.specs.inner.Signs.{KeepsSign, PassesSign, sign_words}
 pub use Rattle.dm_words.specs.inner.Ways.{AreWritten, IsLeastCost, IsMacroOf, inner_text}
 pub use Rattle.dm_words.specs.inner.Written.{ArePartsWritten, ArePushed, IsEdifactEnded, IsGroupPushed, IsItemPushed}

@@ -158,7 +158,7 @@ run_some m at next from within = grind (arith, nat_tests, length-take, length-dr
 
 -- All values of a run spell items.
 abbrev IsWholeRun : Extent → CodeSet → List ℕ → List ℕ → List Item → Type 0
-IsWholeRun extent set words after items = (is : IsRun extent set words after items) × (is.values.filler ≡ [])
+IsWholeRun extent set words after items = (is : IsRun extent set words after items) × (is.filler ≡ [])
 
 -- A run that is whole is a run, whatever end follows.
 pub run_whole : (set : CodeSet) (old words : List ℕ) (items : List Item)
@@ -177,14 +177,12 @@ run_whole set old words items r = (
       end = end;
       ended = is;
       whole = refl;
-      values = record {
-        spellings = r.spellings;
-        each = r.each;
-        filler = [];
-        ended = inl (nothing refl);
-        whole = cc (append-nil (gathered r.pushed.pairs), r.pushed.values_are, append-nil (spelled r.spellings));
-        items_are = r.items_are;
-      };
+      spellings = r.spellings;
+      each_spelling = r.each;
+      filler = [];
+      dropped = inl (nothing refl);
+      values = cc (append-nil (gathered r.pushed.pairs), r.pushed.values_are, append-nil (spelled r.spellings));
+      items_are = r.items_are;
     },
     refl,
   ),

@@ -3,7 +3,7 @@ use Rattle.dm_words.proofs.Names.{◌≡◌, ◌≢◌, ℕ, suc, ◌+◌, ◌*�
 use Rattle.dm_words.proofs.Names.{sym, ap, subst, ◌∙◌, append_assoc, arith, Option, Some, None, zero-add, inl, inr}
 use Rattle.dm_words.proofs.Names.{AllByRecursion, take_at, drop_at, length-append, CodeSet, PairsEnd, Extent, Usual}
 use Rattle.dm_words.proofs.Names.{Wide, Item, WordFault, codeword_of, Piece, spelled, gathered, whats, AreJoined}
-use Rattle.dm_words.proofs.Names.{IsSpelling, AreValues, IsPair, IsRunEnd, unlatch, Bool, true, false, ◌⊎◌}
+use Rattle.dm_words.proofs.Names.{IsSpelling, IsPair, IsRunEnd, unlatch, Bool, true, false, ◌⊎◌}
 use Rattle.dm_words.proofs.Names.{symbol_end, last_word, IsRun, Step, Takes, Stops, Walked, flat, first_pair}
 use Rattle.dm_words.proofs.Names.{first_spelling, run_fault, end_length, run_unless, pairs_in, items_in}
 use Rattle.dm_words.specs.declared.codeword.Codeword.TheVariants as codeword
@@ -166,16 +166,6 @@ module _ (extent : Extent) (set : CodeSet) (place w : ℕ) (is_latch : codeword_
       ap (λ (r : List ℕ). w ∷ r) (p.whole ∙ ap (λ (r : List ℕ). spelled p.pieces ++ r) e
       ∙ sym (append_assoc (spelled p.pieces) end more)) in
       let c = cut_behind_prefix _ prefix more n whole (omega (arith, len, length-append (spelled p.pieces) end)) in
-      let values : AreValues extent set (gathered p.pieces) vw.taken =
-      record {
-        spellings = v.pieces;
-        each = spellings_right;
-        filler = v.after;
-        ended = dropped;
-        whole =
-            joined_values;
-        items_are = v.taken;
-      } in
       let run : IsRun extent set prefix more vw.taken =
       record {
         latch = w;
@@ -186,7 +176,12 @@ module _ (extent : Extent) (set : CodeSet) (place w : ℕ) (is_latch : codeword_
         ended =
             ended;
         whole = refl;
-        values = values;
+        spellings = v.pieces;
+        each_spelling = spellings_right;
+        filler = v.after;
+        dropped = dropped;
+        values = joined_values;
+        items_are = v.taken;
       } in
       record { right = rw (c.0, c.1) run; some = omega (arith, len); within = c.2 }
 
@@ -315,10 +310,10 @@ pub run_complete : (extent : Extent) (set : CodeSet) (place : ℕ) (words after 
     → RunFound extent set place (words ++ after) (Takes (length words) items) × (0 < length words)
 run_complete extent set place words after items r =
     let t = end_found r.end after r.ended in
-    let d = dropped_found extent set place (length (spelled r.pairs)) (length (spelled r.values.spellings))
-    r.values.filler t.0 r.values.ended t.3 in
-    let again = run_again extent set place r.pairs _ _ r.values.spellings r.values.filler d.kind r.each t.1
-    r.values.each d.left_so r.values.whole in
+    let d = dropped_found extent set place (length (spelled r.pairs)) (length (spelled r.spellings))
+    r.filler t.0 r.dropped t.3 in
+    let again = run_again extent set place r.pairs _ _ r.spellings r.filler d.kind r.each t.1
+    r.each_spelling d.left_so r.values in
     let len : 1 + length (spelled r.pairs) + end_length t.0
     ≡ length words = omega (arith, t.2, ap length r.whole, length-append (spelled r.pairs) r.end) in
     let none_there = d.no_fault_there in (
@@ -327,7 +322,7 @@ run_complete extent set place words after items r =
         others = spelled r.pairs ++ (r.end ++ after);
         whole = cc (r.whole, append_assoc (spelled r.pairs) r.end after);
         is_latch = r.is_latch;
-        found = again ∙ rw (none_there, len, r.values.items_are) refl;
+        found = again ∙ rw (none_there, len, r.items_are) refl;
       },
       omega (arith, len),
     )
@@ -453,10 +448,10 @@ pub run_room : (extent : Extent) (set : CodeSet) (words after : List ℕ) (items
 run_room extent set words after items r =
     omega (
       arith,
-      ap length r.values.items_are,
-      items_room set r.values.spellings r.values.each,
-      ap length r.values.whole,
-      length-append (spelled r.values.spellings) r.values.filler,
+      ap length r.items_are,
+      items_room set r.spellings r.each_spelling,
+      ap length r.values,
+      length-append (spelled r.spellings) r.filler,
       pairs_room r.pairs r.each,
       ap length r.whole,
       length-append (spelled r.pairs) r.end,

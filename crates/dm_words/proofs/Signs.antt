@@ -97,9 +97,9 @@ run_long set words after items r some =
     omega (
       arith,
       pairs_room r.pairs r.each,
-      ap length r.values.whole,
-      length-append (spelled r.values.spellings) r.values.filler,
-      by_spellings r.values.spellings r.values.each (ap length r.values.items_are),
+      ap length r.values,
+      length-append (spelled r.spellings) r.filler,
+      by_spellings r.spellings r.each_spelling (ap length r.items_are),
     ) where
       by_spellings : (q : List (Piece Item)) → AllByRecursion (λ piece. IsSpelling set piece.words piece.what) q
           → length items ≡ length (whats q) → 1 ≤ length (spelled q)

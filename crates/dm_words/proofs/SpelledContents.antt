@@ -28,14 +28,12 @@ empty_run place latch unlatch_there set after k is =
       end = 254 ∷ [];
       ended = unlatch refl;
       whole = ap (λ (u : ℕ). latch ∷ u ∷ []) is;
-      values = record {
-        spellings = [];
-        each = tt;
-        filler = [];
-        ended = inl (nothing refl);
-        whole = refl;
-        items_are = refl;
-      };
+      spellings = [];
+      each_spelling = tt;
+      filler = [];
+      dropped = inl (nothing refl);
+      values = refl;
+      items_are = refl;
     })
 
 -- A macro begins no part of a content.

@@ -9,8 +9,8 @@ use Rattle.dm_words.specs.declared.c40.set.Basic.TheVariants as basic
 use Rattle.dm_words.specs.declared.c40.set.Shifted.TheVariants as shifted
 use Rattle.dm_words.specs.declared.c40.value.Rest.{Rest}
 use Rattle.dm_words.specs.declared.c40.value.Rest.TheVariants as left
-use Rattle.dm_words.specs.Values.{plain, character, fnc1, raised, IsWaiting, BeginsWithoutMeaning, at_once}
-use Rattle.dm_words.specs.Values.{after_upper_shift, BeginsWrongUpperShift, complete, meaningless, wrong_upper_shift}
+use Rattle.dm_words.specs.Values.{plain, character, fnc1, raised, IsWaiting, BeginsShifted, at_once}
+use Rattle.dm_words.specs.Values.{after_upper_shift, complete, meaningless, wrong_upper_shift}
 use Rattle.dm_words.specs.inner.Scan.Prefixes.{raised_shifted, raised_by, shifted_by, spelling_by}
 use Rattle.dm_words.proofs.Walks.{IsSound, IsComplete}
 
@@ -40,8 +40,9 @@ IsDropped extent set values = IsFiller set values ⊎ ((extent ≡ Wide) × IsWa
 abbrev pub IsRestOf : CodeSet → List ℕ → Rest → Type 0
 IsRestOf set values left.Complete = IsFiller set values
 IsRestOf set values left.Waiting = IsWaiting set values
-IsRestOf set values left.WrongUpperShift = BeginsWrongUpperShift set values
-IsRestOf set values (left.Meaningless index) = BeginsWithoutMeaning set values index
+IsRestOf set values left.WrongUpperShift =
+    BeginsShifted set values (Some shifted.Fnc1) 3 ⊎ BeginsShifted set values (Some shifted.UpperShift) 3
+IsRestOf set values (left.Meaningless index) = BeginsShifted set values None index
 
 -- The first n values spell this item.
 abbrev Right : CodeSet → List ℕ → ℕ → Item → Type 0
@@ -67,25 +68,9 @@ judged_raised_shifted set s v t w shift more (Some (shifted.Character b)) u et e
   omega arith,
 )
 judged_raised_shifted set s v t w shift more (Some shifted.Fnc1) u et ew =
-    λ fit. record {
-      upper = s ∷ v ∷ [];
-      two = t ∷ w ∷ [];
-      more = more;
-      is_upper = u;
-      is_wrong =
-          inl (shift_means set t w shift _ et ew);
-      whole = refl;
-    }
+    λ fit. inl (after_upper_shift (s ∷ v ∷ []) (t ∷ w ∷ []) more u (shift_means set t w shift _ et ew) refl refl)
 judged_raised_shifted set s v t w shift more (Some shifted.UpperShift) u et ew =
-    λ fit. record {
-      upper = s ∷ v ∷ [];
-      two = t ∷ w ∷ [];
-      more = more;
-      is_upper = u;
-      is_wrong =
-          inr (shift_means set t w shift _ et ew);
-      whole = refl;
-    }
+    λ fit. inr (after_upper_shift (s ∷ v ∷ []) (t ∷ w ∷ []) more u (shift_means set t w shift _ et ew) refl refl)
 judged_raised_shifted set s v t w shift more None u et ew =
     λ fit. after_upper_shift (s ∷ v ∷ []) (t ∷ w ∷ []) more u (shift_means set t w shift _ et ew) refl refl
 
@@ -183,11 +168,23 @@ wrong_complete : (set : CodeSet) (place : ℕ) (values upper pair more : List �
     → first_spelling set place values ≡ Stops left.WrongUpperShift
 wrong_complete set place values upper pair more h1 h2 h3 = grind (arith, nat_tests)
 
+-- So it is found in both forms.
+wrong_found : (set : CodeSet) (place : ℕ) (values : List ℕ) → IsRestOf set values left.WrongUpperShift
+    → first_spelling set place values ≡ Stops left.WrongUpperShift
+wrong_found set place values (inl (at_once two more t w i)) = absurd (omega (arith, i))
+wrong_found set place values (inr (at_once two more t w i)) = absurd (omega (arith, i))
+wrong_found set place values (inl (after_upper_shift upper two more u t w i)) =
+    wrong_complete set place values upper two more u (inl t) w
+wrong_found set place values (inr (after_upper_shift upper two more u t w i)) =
+    wrong_complete set place values upper two more u (inr t) w
+
 -- A rest of each kind is found.
 pub rest_complete : (set : CodeSet) (place : ℕ) (values : List ℕ) (kind : Rest) → IsRestOf set values kind
     → first_spelling set place values ≡ Stops kind
-rest_complete set place values kind h1 =
-    grind (arith, nat_tests, lone_shift, wrong_complete, at_once, after_upper_shift)
+rest_complete set place values left.Complete r = grind (arith, nat_tests, lone_shift)
+rest_complete set place values left.Waiting r = grind (arith, nat_tests, lone_shift)
+rest_complete set place values left.WrongUpperShift r = wrong_found set place values r
+rest_complete set place values (left.Meaningless index) r = grind (arith, nat_tests, at_once, after_upper_shift)
 
 -- ---- what can stand behind the last whole spelling has no whole spelling as a prefix
 

@@ -1,10 +1,10 @@
 -- Base 256 encodation (ISO/IEC 16022, Base 256 encodation and its 255-state randomising).
-use Rattle.std.specs.Prelude.{◌≡◌, ◌≢◌, ℕ, ◌+◌, ◌-◌, ◌*◌, ◌%◌, ◌<◌, ◌≤◌, List, [], ◌∷◌, ◌++◌, length, Some}
+use Rattle.std.specs.Prelude.{◌≡◌, ◌≢◌, ℕ, ◌+◌, ◌-◌, ◌*◌, ◌%◌, ◌<◌, ◌≤◌, List, [], ◌∷◌, ◌++◌, length, map, Some}
 use Rattle.std.specs.List.{AllByRecursion}
 use Rattle.dm_words.specs.declared.item.Item.{Item}
+use Rattle.dm_words.specs.declared.item.Item.TheVariants.{Byte}
 use Rattle.dm_words.specs.declared.codeword.Codeword.TheVariants as codeword
 use Rattle.dm_words.specs.Codewords.{codeword_of}
-use Rattle.dm_words.specs.Messages.{byte_items}
 
 -- A value is written as this codeword at a place of the symbol, which counts all data codewords from 1: a pseudo-random
 -- number of the place is added.
@@ -35,7 +35,7 @@ pub record IsSegment (place : ℕ) (words after : List ℕ) (items : List Item) 
   pub in_range : AllByRecursion (λ byte. byte < 256) bytes
   pub counted : IsLengthField field (length bytes) after
   pub whole : words ≡ latch ∷ written (place + 1) (field ++ bytes)
-  pub items_are : items ≡ byte_items bytes
+  pub items_are : items ≡ map Byte bytes
 
 -- A faulty segment is a latch at a place and all codewords after it up to the end of the symbol, where no segment
 -- begins: their values don't begin with a whole length field and as many bytes as it says.

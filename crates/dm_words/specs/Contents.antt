@@ -4,7 +4,7 @@
 -- EDIFACT are read in the wide extent alone. The extents, what is left out, which fault is named and at which place,
 -- and that the places of marks count items, the header of a macro with them, are choices of this project.
 use Rattle.std.specs.Prelude.{◌≡◌, ◌≢◌, ℕ, ◌+◌, ◌*◌, ◌≤◌, List, [], ◌∷◌, ◌++◌, length, Option, Some, None, ◌⊎◌}
-use Rattle.std.specs.Prelude.{◌==◌, if◌then◌else◌}
+use Rattle.std.specs.Prelude.{◌==◌, if◌then◌else◌, map}
 use Rattle.dm_words.specs.declared.extent.Extent.{Extent}
 use Rattle.dm_words.specs.declared.extent.Extent.TheVariants.{Wide}
 use Rattle.dm_words.specs.declared.item.Item.{Item}
@@ -19,7 +19,7 @@ use Rattle.dm_words.specs.declared.contents.opening.Opening.{Opening}
 use Rattle.dm_words.specs.declared.contents.opening.Opening.TheVariants.{Plain, Headed, Framed}
 use Rattle.dm_words.specs.Codewords.{codeword_of}
 use Rattle.dm_words.specs.Messages.{IsMessage}
-use Rattle.dm_words.specs.Joined.{Piece, spelled, whats, AreJoined}
+use Rattle.dm_words.specs.Joined.{Piece, spelled, AreJoined}
 use Rattle.dm_words.specs.Macros.{macro_text}
 use Rattle.dm_words.specs.Parts.{IsPart, IsEnd}
 use Rattle.dm_words.specs.Faults.{IsFault}
@@ -83,7 +83,7 @@ pub record AreContentParts (extent : Extent) (place : ℕ) (words : List ℕ) (s
   pub joined : AreJoined (IsContentPart extent) place parts after
   pub ended : IsEnd after
   pub whole : words ≡ spelled parts ++ after
-  pub said_are : said ≡ whats parts
+  pub said_are : said ≡ map (λ piece. piece.what) parts
 
 -- The items that parts say, in order.
 abbrev pub said_items : List Said → List Item

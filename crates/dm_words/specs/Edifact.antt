@@ -3,10 +3,10 @@ use Rattle.std.specs.Prelude.{◌≡◌, ◌≢◌, ℕ, ◌+◌, ◌*◌, ◌<�
 use Rattle.std.specs.Prelude.{if◌then◌else◌}
 use Rattle.std.specs.List.{AllByRecursion}
 use Rattle.dm_words.specs.declared.item.Item.{Item}
+use Rattle.dm_words.specs.declared.item.Item.TheVariants.{Byte}
 use Rattle.dm_words.specs.declared.codeword.Codeword.TheVariants as codeword
 use Rattle.dm_words.specs.Codewords.{codeword_of}
 use Rattle.dm_words.specs.Joined.{Piece, spelled, gathered}
-use Rattle.dm_words.specs.Messages.{byte_items}
 
 -- A group is three codewords for four values of six bits each. The number of the codewords, high byte first, is the
 -- number of the values, first
@@ -28,10 +28,6 @@ pub record IsGroup (words values : List ℕ) : Type 0 where
   pub number : 65536 * high + 256 * middle + low ≡ 262144 * first + 4096 * second + 64 * third + fourth
   pub words_are : words ≡ high ∷ middle ∷ low ∷ []
   pub values_are : values ≡ first ∷ second ∷ third ∷ fourth ∷ []
-
--- The values 0 to 30 stand for the bytes 64 to 94, and 32 to 63 for themselves; 31 is the unlatch.
-abbrev pub edifact_byte : ℕ → ℕ
-edifact_byte value = if nat_lt value 31 then value + 64 else value
 
 -- A run ends in one of these ways, each with its codewords and the values before the unlatch, if it has one; `after`
 -- are
@@ -60,9 +56,8 @@ pub data IsEdifactEnd (words after values : List ℕ) : Type 0 where
   fourth : (one two three : ℕ) → IsGroup words (one ∷ two ∷ three ∷ 31 ∷ [])
       → values ≡ one ∷ two ∷ three ∷ [] → IsEdifactEnd words after values
 
--- A run is a latch, then whole groups, then an end. No value is the unlatch but the one that ends the run. The values,
--- joined, stand for the bytes of the
--- items.
+-- A run is a latch, then whole groups, then an end. No value is the unlatch, 31, but the one that ends the run. The
+-- values, joined, stand for the bytes of the items: 0 to 30 for 64 to 94, and 32 to 63 for themselves.
 pub record IsEdifactRun (words after : List ℕ) (items : List Item) : Type 0 where
   pub latch : ℕ
   pub is_latch : codeword_of latch ≡ Some codeword.Edifact
@@ -73,4 +68,5 @@ pub record IsEdifactRun (words after : List ℕ) (items : List Item) : Type 0 wh
   pub ended : IsEdifactEnd end after last
   pub no_unlatch : AllByRecursion (λ value. value ≢ 31) (gathered groups ++ last)
   pub whole : words ≡ latch ∷ (spelled groups ++ end)
-  pub items_are : items ≡ byte_items (map edifact_byte (gathered groups ++ last))
+  pub items_are :
+      items ≡ map Byte (map (λ value. if nat_lt value 31 then value + 64 else value) (gathered groups ++ last))

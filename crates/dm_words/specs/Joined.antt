@@ -12,11 +12,6 @@ module _ {A : Type 0} where
   spelled [] = []
   spelled (piece ∷ pieces) = piece.words ++ spelled pieces
 
-  -- What the pieces stand for is listed in order.
-  abbrev pub whats : List (Piece A) → List A
-  whats [] = []
-  whats (piece ∷ pieces) = piece.what ∷ whats pieces
-
   -- Each piece is right where it stands, which depends on its place and on all that follows it, up to the end of the
   -- list. The first piece
   -- stands at `place`, and `after` follows the last one.

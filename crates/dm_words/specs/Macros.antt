@@ -1,16 +1,15 @@
 -- Macros (ISO/IEC 16022, 05 and 06 macro characters): one codeword, the first of the symbol, for the header and the
 -- trailer of a message.
-use Rattle.std.specs.Prelude.{◌≡◌, ℕ, List, [], ◌∷◌, ◌++◌}
+use Rattle.std.specs.Prelude.{◌≡◌, ℕ, List, [], ◌∷◌, ◌++◌, map}
 use Rattle.dm_words.specs.declared.item.Item.{Item}
 use Rattle.dm_words.specs.declared.item.Item.TheVariants.{Byte, Fnc1}
-use Rattle.dm_words.specs.Messages.{byte_items}
 
 -- A macro stands for the header and the trailer of a format whose second digit is this byte, with this text between
 -- them. The header is `[)>`, the record separator, the digit 0 and this one, and the group separator; the trailer is
 -- the record separator and the end of transmission.
 abbrev pub macro_text : ℕ → List Item → List Item
 macro_text digit text =
-    byte_items (91 ∷ 41 ∷ 62 ∷ 30 ∷ 48 ∷ digit ∷ 29 ∷ []) ++ (text ++ byte_items (30 ∷ 4 ∷ []))
+    map Byte (91 ∷ 41 ∷ 62 ∷ 30 ∷ 48 ∷ digit ∷ 29 ∷ []) ++ (text ++ map Byte (30 ∷ 4 ∷ []))
 
 -- The items begin with FNC1.
 abbrev pub BeginsFnc1 : List Item → Type 0

@@ -1,5 +1,5 @@
 -- Messages: lists of items, and how many items there can be (ISO/IEC 16022, encodation schemes).
-use Rattle.std.specs.Prelude.{ℕ, zero, suc, ◌+◌, ◌*◌, ◌<◌, List, [], ◌∷◌, All}
+use Rattle.std.specs.Prelude.{ℕ, zero, suc, ◌+◌, ◌*◌, ◌<◌, List, All}
 use Rattle.dm_layout.specs.Sizes.{most_grid_data}
 pub use Rattle.dm_layout.specs.symbols.Sizes.{most_data}
 use Rattle.dm_words.specs.declared.extent.Extent.{Extent}
@@ -11,11 +11,6 @@ use Rattle.dm_words.specs.declared.item.Item.TheVariants.{Byte, Fnc1}
 abbrev pub byte_of : Item → ℕ
 byte_of (Byte byte) = byte
 byte_of Fnc1 = 0
-
--- The items of bytes are these bytes, in order.
-abbrev pub byte_items : List ℕ → List Item
-byte_items [] = []
-byte_items (byte ∷ bytes) = Byte byte ∷ byte_items bytes
 
 -- The byte of an item is 0 to 255.
 abbrev pub IsItem : Item → Type 0

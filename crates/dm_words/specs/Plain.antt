@@ -23,7 +23,7 @@ use Rattle.dm_words.specs.Symbology.{KeepsIdentifier}
 -- items: it has no filler, and in the usual extent no Upper Shift waits.
 pub data IsPlainPart (place : ℕ) (words after : List ℕ) (items : List Item) : Type 0 where
   ascii : IsAsciiUnit words items → IsPlainPart place words after items
-  run : (set : CodeSet) → (is : IsRun Usual set words after items) → is.values.filler ≡ [] → 0 < length items
+  run : (set : CodeSet) → (is : IsRun Usual set words after items) → is.filler ≡ [] → 0 < length items
       → IsPlainPart place words after items
   segment : IsSegment place words after items → 0 < length items → IsPlainPart place words after items
   edifact : IsEdifactRun words after items → 0 < length items → IsPlainPart place words after items

@@ -1,7 +1,7 @@
 -- What is wrong with a run of C40, Text or X12, and at which place. Which of several faults is named, and its place,
 -- are rules of this project.
-use Rattle.std.specs.Prelude.{◌≡◌, ◌≢◌, ℕ, ◌+◌, ◌*◌, ◌/◌, ◌<◌, List, ◌∷◌, ◌++◌, length, ◌⊎◌, Some, Bool, true}
-use Rattle.std.specs.Prelude.{false}
+use Rattle.std.specs.Prelude.{◌≡◌, ◌≢◌, ℕ, ◌+◌, ◌*◌, ◌/◌, ◌<◌, List, ◌∷◌, ◌++◌, length, ◌⊎◌, Some, None, Bool}
+use Rattle.std.specs.Prelude.{true, false}
 use Rattle.std.specs.List.{AllByRecursion}
 use Rattle.dm_words.specs.declared.extent.Extent.{Extent}
 use Rattle.dm_words.specs.declared.extent.Extent.TheVariants.{Usual}
@@ -10,9 +10,10 @@ use Rattle.dm_words.specs.declared.fault.WordFault.{WordFault}
 use Rattle.dm_words.specs.declared.fault.WordFault.TheVariants as fault
 use Rattle.dm_words.specs.declared.codeword.Codeword.TheVariants as codeword
 use Rattle.dm_words.specs.declared.c40.set.CodeSet.{CodeSet}
+use Rattle.dm_words.specs.declared.c40.set.Shifted.TheVariants as shifted
 use Rattle.dm_words.specs.Codewords.{codeword_of}
 use Rattle.dm_words.specs.Joined.{Piece, spelled, gathered}
-use Rattle.dm_words.specs.Values.{IsSpelling, IsFiller, IsWaiting, BeginsWithoutMeaning, BeginsWrongUpperShift}
+use Rattle.dm_words.specs.Values.{IsSpelling, IsFiller, IsWaiting, BeginsShifted}
 use Rattle.dm_words.specs.Runs.{IsPair, IsRunEnd}
 
 -- No further good pair follows: the codewords, up to the end of the symbol, begin with the end of the run; or, where
@@ -49,12 +50,13 @@ pair_place place index = place + 1 + 2 * (index / 3)
 pub data IsRunFault (extent : Extent) (set : CodeSet) (place : ℕ) (words : List ℕ) (run : OpenRun set words)
     (why : WordFault) : Type 0 where
   -- A value has no meaning after its shift.
-  value : (index : ℕ) → BeginsWithoutMeaning set run.rest index
+  value : (index : ℕ) → BeginsShifted set run.rest None index
       → why ≡ fault.Value (pair_place place (length (spelled run.spellings) + index))
       → IsRunFault extent set place words run why
   -- An Upper Shift stands directly before FNC1 or another Upper Shift, which is a fault by a rule of this project; the
   -- fault names the pair of its second value, 30.
-  upper_shift : BeginsWrongUpperShift set run.rest
+  upper_shift : BeginsShifted set run.rest (Some shifted.Fnc1) 3
+      ⊎ BeginsShifted set run.rest (Some shifted.UpperShift) 3
       → why ≡ fault.UpperShift (pair_place place (length (spelled run.spellings) + 1))
       → IsRunFault extent set place words run why
   -- The codewords behind the pairs begin with a bad pair.

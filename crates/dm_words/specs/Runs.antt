@@ -1,13 +1,14 @@
 -- Runs of C40, Text and X12 (ISO/IEC 16022, C40, Text and ANSI X12 encodation).
-use Rattle.std.specs.Prelude.{◌≡◌, ◌≢◌, ℕ, ◌+◌, ◌*◌, ◌<◌, List, [], ◌∷◌, ◌++◌, Some}
+use Rattle.std.specs.Prelude.{◌≡◌, ◌≢◌, ℕ, ◌+◌, ◌*◌, ◌<◌, List, [], ◌∷◌, ◌++◌, Some, ◌⊎◌, map}
 use Rattle.std.specs.List.{AllByRecursion}
 use Rattle.dm_words.specs.declared.extent.Extent.{Extent}
+use Rattle.dm_words.specs.declared.extent.Extent.TheVariants.{Wide}
 use Rattle.dm_words.specs.declared.item.Item.{Item}
 use Rattle.dm_words.specs.declared.codeword.Codeword.TheVariants as codeword
 use Rattle.dm_words.specs.declared.c40.set.CodeSet.{CodeSet}
 use Rattle.dm_words.specs.Codewords.{codeword_of}
 use Rattle.dm_words.specs.Joined.{Piece, spelled, gathered}
-use Rattle.dm_words.specs.Values.{AreValues}
+use Rattle.dm_words.specs.Values.{IsSpelling, IsFiller, IsWaiting}
 
 -- A pair is two codewords for three values, each below 40. Their number, high and low byte, is 1600 times the first
 -- value, plus 40 times the
@@ -43,7 +44,9 @@ pub data IsRunEnd (words after : List ℕ) : Type 0 where
   -- it is read in ASCII. This is case d.
   last_word : (word : ℕ) → word ≢ 254 → words ≡ [] → after ≡ word ∷ [] → IsRunEnd words after
 
--- A run is a latch, then pairs, then an end. The values of all pairs, joined, spell the items.
+-- A run is a latch, then pairs, then an end. The values of all pairs, joined, are spellings of these items, one after
+-- the other, and then what is dropped: a filler; in the wide extent also an Upper Shift that waits, which some writers
+-- fill with.
 pub record IsRun (extent : Extent) (set : CodeSet) (words after : List ℕ) (items : List Item) : Type 0 where
   pub latch : ℕ
   pub is_latch : codeword_of latch ≡ Some (codeword.Latch set)
@@ -52,4 +55,9 @@ pub record IsRun (extent : Extent) (set : CodeSet) (words after : List ℕ) (ite
   pub end : List ℕ
   pub ended : IsRunEnd end after
   pub whole : words ≡ latch ∷ (spelled pairs ++ end)
-  pub values : AreValues extent set (gathered pairs) items
+  pub spellings : List (Piece Item)
+  pub each_spelling : AllByRecursion (λ piece. IsSpelling set piece.words piece.what) spellings
+  pub filler : List ℕ
+  pub dropped : IsFiller set filler ⊎ ((extent ≡ Wide) × IsWaiting set filler)
+  pub values : gathered pairs ≡ spelled spellings ++ filler
+  pub items_are : items ≡ map (λ piece. piece.what) spellings

@@ -1,9 +1,6 @@
 -- The values of a run of C40, Text or X12, and the items that they spell (ISO/IEC 16022, C40, Text and ANSI X12
 -- encodation).
 use Rattle.std.specs.Prelude.{◌≡◌, ℕ, ◌+◌, ◌<◌, List, [], ◌∷◌, ◌++◌, Option, Some, None, ◌⊎◌}
-use Rattle.std.specs.List.{AllByRecursion}
-use Rattle.dm_words.specs.declared.extent.Extent.{Extent}
-use Rattle.dm_words.specs.declared.extent.Extent.TheVariants.{Wide}
 use Rattle.dm_words.specs.declared.item.Item.{Item}
 use Rattle.dm_words.specs.declared.item.Item.TheVariants.{Byte, Fnc1}
 use Rattle.dm_words.specs.declared.c40.set.CodeSet.{CodeSet}
@@ -12,7 +9,6 @@ use Rattle.dm_words.specs.declared.c40.set.Basic.TheVariants as basic
 use Rattle.dm_words.specs.declared.c40.set.Shifted.{Shifted}
 use Rattle.dm_words.specs.declared.c40.set.Shifted.TheVariants as shifted
 use Rattle.dm_words.specs.CodeSets.{basic_of, shifted_of}
-use Rattle.dm_words.specs.Joined.{Piece, spelled, whats}
 
 -- A value of a run is 0 to 39.
 abbrev pub IsRunValue : ℕ → Type 0
@@ -57,37 +53,19 @@ pub record IsWaiting (set : CodeSet) (values : List ℕ) : Type 0 where
   pub ended : IsFiller set filler
   pub whole : values ≡ upper ++ filler
 
--- The values of a run are spellings of these items, one after the other, and then what is dropped: a filler; in the
--- wide extent also an Upper Shift that waits, which some writers fill with.
-pub record AreValues (extent : Extent) (set : CodeSet) (values : List ℕ) (items : List Item) : Type 0 where
-  pub spellings : List (Piece Item)
-  pub each : AllByRecursion (λ piece. IsSpelling set piece.words piece.what) spellings
-  pub filler : List ℕ
-  pub ended : IsFiller set filler ⊎ ((extent ≡ Wide) × IsWaiting set filler)
-  pub whole : values ≡ spelled spellings ++ filler
-  pub items_are : items ≡ whats spellings
-
--- The values begin with a shift and a value that has no meaning after it, with or without an Upper Shift before them.
--- That value stands at
--- this index.
-pub data BeginsWithoutMeaning (set : CodeSet) (values : List ℕ) (index : ℕ) : Type 0 where
-  at_once : (two more : List ℕ) → IsShifted set two None → values ≡ two ++ more → index ≡ 1
-      → BeginsWithoutMeaning set values index
+-- The values begin with a shift and a value that have this meaning together, or none, with or without an Upper Shift
+-- before them. That value stands at this index: 1, or 3 behind an Upper Shift.
+pub data BeginsShifted (set : CodeSet) (values : List ℕ) (meaning : Option Shifted) (index : ℕ) : Type 0 where
+  at_once : (two more : List ℕ) → IsShifted set two meaning → values ≡ two ++ more → index ≡ 1
+      → BeginsShifted set values meaning index
   after_upper_shift : (upper two more : List ℕ) → IsShifted set upper (Some shifted.UpperShift)
-      → IsShifted set two None → values ≡ upper ++ (two ++ more) → index ≡ 3 → BeginsWithoutMeaning set values index
-
--- The values begin with an Upper Shift and then FNC1 or an Upper Shift, which means nothing by a rule of this project.
-pub record BeginsWrongUpperShift (set : CodeSet) (values : List ℕ) : Type 0 where
-  pub upper : List ℕ
-  pub two : List ℕ
-  pub more : List ℕ
-  pub is_upper : IsShifted set upper (Some shifted.UpperShift)
-  pub is_wrong : IsShifted set two (Some shifted.Fnc1) ⊎ IsShifted set two (Some shifted.UpperShift)
-  pub whole : values ≡ upper ++ (two ++ more)
+      → IsShifted set two meaning → values ≡ upper ++ (two ++ more) → index ≡ 3
+      → BeginsShifted set values meaning index
 
 -- These values can follow the last whole spelling of a run, whose values are 0 to 39.
 pub data IsRest (set : CodeSet) (values : List ℕ) : Type 0 where
   complete : IsFiller set values → IsRest set values
   waiting : IsWaiting set values → IsRest set values
-  meaningless : (index : ℕ) → BeginsWithoutMeaning set values index → IsRest set values
-  wrong_upper_shift : BeginsWrongUpperShift set values → IsRest set values
+  meaningless : (index : ℕ) → BeginsShifted set values None index → IsRest set values
+  wrong_upper_shift : BeginsShifted set values (Some shifted.Fnc1) 3
+      ⊎ BeginsShifted set values (Some shifted.UpperShift) 3 → IsRest set values

@@ -2,10 +2,10 @@
 //! as many bytes as that says.
 
 ghost use Rattle.std.specs.Prelude.{◌≡◌, ℕ, ◌+◌, ◌≤◌, ◌<◌, ◌*◌, ◌∷◌, [], ◌++◌, length, drop, take, map, slice_index};
-ghost use Rattle.dm_words.specs.Messages.{byte_of, byte_items};
+ghost use Rattle.dm_words.specs.Messages.{byte_of};
 ghost use Rattle.dm_words.specs.Base256.{randomised, written};
 ghost use Rattle.dm_words.specs.NormalForm.{length_numbers, one_segment};
-ghost use Rattle.dm_words.specs.inner.Scan.Prefixes.{plain_at, plain, random_at, segment_behind};
+ghost use Rattle.dm_words.specs.inner.Scan.Prefixes.{byte_items, plain_at, plain, random_at, segment_behind};
 ghost use Rattle.dm_words.specs.inner.Scan.Results.{HasRoomAt, IsPartTaken};
 
 use crate::codeword::{BASE256_LATCH, RANDOM_FACTOR};

@@ -2,8 +2,7 @@
 //! from a latch on to the unlatch or to the last codewords of the symbol.
 
 ghost use Rattle.std.specs.Prelude.{◌≡◌, ℕ, ◌+◌, ◌≤◌, ◌<◌, ◌*◌, ◌∷◌, [], length, take, drop, Ok};
-ghost use Rattle.dm_words.specs.Edifact.{edifact_byte};
-ghost use Rattle.dm_words.specs.inner.Scan.Prefixes.{group_values, edifact_run, edifact_items};
+ghost use Rattle.dm_words.specs.inner.Scan.Prefixes.{edifact_byte, edifact_items, edifact_run, group_values};
 ghost use Rattle.dm_words.specs.inner.Scan.Results.{HasRoomAt, IsGroupTaken, IsEdifactTaken};
 
 use crate::held::add;

@@ -1,12 +1,12 @@
 //! Laws of the definitions in `specs/`, and of the limits. Each function has an empty body: its contract is the law.
 
-ghost use Rattle.std.specs.Prelude.{◌≡◌, ℕ, ◌+◌, ◌*◌, ◌≤◌, ◌↔◌, List, length};
+ghost use Rattle.std.specs.Prelude.{◌≡◌, ℕ, ◌+◌, ◌*◌, ◌≤◌, ◌↔◌, List, length, map};
 ghost use Rattle.dm_layout.specs.Sizes.{most_grid_data};
 ghost use Rattle.dm_words.specs.declared.extent.Extent.{Extent};
 ghost use Rattle.dm_words.specs.declared.item.Item.{Item};
 ghost use Rattle.dm_words.specs.declared.c40.set.CodeSet.{CodeSet};
 ghost use Rattle.dm_words.specs.declared.c40.set.Shift.{Shift};
-ghost use Rattle.dm_words.specs.Messages.{IsMessage, most_data, most_spelled, byte_items};
+ghost use Rattle.dm_words.specs.Messages.{IsMessage, most_data, most_spelled};
 ghost use Rattle.dm_words.specs.Rows.{IsTable};
 ghost use Rattle.dm_words.specs.Codewords.{codeword_rows};
 ghost use Rattle.dm_words.specs.CodeSets.{basic_rows, shifted_rows};
@@ -79,7 +79,7 @@ pub fn normal_form_spells()
         → length m ≤ 2 * length (normal_form profile m) }
     ensures shorter { (m : List Item) → length (shorter m) ≤ length (ascii m) }
     ensures segment { (bytes : List ℕ)
-        → length (shorter (byte_items bytes)) ≤ length (one_segment bytes) }
+        → length (shorter (map (λ byte. Item.Byte byte) bytes)) ≤ length (one_segment bytes) }
 {}
 
 /// What can follow the last whole spelling of a run is exactly what has no whole spelling as a prefix.

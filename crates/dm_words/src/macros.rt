@@ -2,12 +2,11 @@
 
 ghost use Rattle.std.specs.Prelude.{◌≡◌, ◌+◌, ◌≤◌, ◌++◌, List, length, take, IsTrue, IfSome, IfNone};
 ghost use Rattle.dm_words.specs.declared.item.Item.{Item};
-ghost use Rattle.dm_words.specs.Messages.{byte_items};
 ghost use Rattle.dm_words.specs.Macros.{macro_text, BeginsFnc1};
 ghost use Rattle.dm_words.specs.inner.ContentScan.{macro_header, macro_trailer};
 ghost use Rattle.dm_words.specs.inner.Ways.{inner_text, IsMacroOf, HasNoMacro};
 ghost use Rattle.dm_words.specs.Codewords.{codeword_of};
-ghost use Rattle.dm_words.specs.inner.Scan.Prefixes.{digit_by};
+ghost use Rattle.dm_words.specs.inner.Scan.Prefixes.{byte_items, digit_by};
 
 use crate::codeword::{Codeword, MACRO_05, MACRO_06, meaning};
 use crate::extent::Extent;

@@ -9,7 +9,8 @@ use Rattle.dm_words.specs.declared.contents.head.Head.{Head}
 use Rattle.dm_words.specs.declared.contents.mark.Mark.{Mark}
 use Rattle.dm_words.specs.Codewords.{codeword_of}
 use Rattle.dm_words.specs.Heads.{head_words}
-use Rattle.dm_words.specs.Joined.{Piece, spelled, whats, AreJoined}
+use Rattle.dm_words.specs.Joined.{Piece, spelled, AreJoined}
+use Rattle.dm_words.specs.inner.Scan.Walk.{whats}
 use Rattle.dm_words.specs.Contents.{ContentView, AreMarks, Said, IsContentPart, said_items, said_marks}
 use Rattle.dm_words.specs.ContentForm.{mark_words}
 use Rattle.dm_words.specs.Macros.{macro_text, BeginsFnc1}

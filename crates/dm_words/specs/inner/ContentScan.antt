@@ -21,10 +21,9 @@ use Rattle.dm_words.specs.declared.contents.opening.Opening.{Opening}
 use Rattle.dm_words.specs.declared.contents.opening.Opening.TheVariants.{Plain, Headed, Framed}
 use Rattle.dm_words.specs.Codewords.{codeword_of}
 use Rattle.dm_words.specs.Designators.{eci_word, most_assigned}
-use Rattle.dm_words.specs.Messages.{byte_items}
 use Rattle.dm_words.specs.Contents.{ContentView, with_mark, Said, Items, Number, said_items, said_marks, AreFrame}
 use Rattle.dm_words.specs.inner.Scan.Walk.{Step, Takes, Stops, walk}
-use Rattle.dm_words.specs.inner.Scan.Prefixes.{digit_by, first_part}
+use Rattle.dm_words.specs.inner.Scan.Prefixes.{byte_items, digit_by, first_part}
 
 -- ---- designators
 

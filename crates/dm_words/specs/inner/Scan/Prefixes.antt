@@ -22,11 +22,13 @@ use Rattle.dm_words.specs.declared.c40.value.Rest.TheVariants as rest
 use Rattle.dm_words.specs.Codewords.{codeword_of}
 use Rattle.dm_words.specs.CodeSets.{basic_of, shifted_of}
 use Rattle.dm_words.specs.RunFaults.{pair_place}
-use Rattle.dm_words.specs.Messages.{byte_items}
-use Rattle.dm_words.specs.Edifact.{edifact_byte}
 use Rattle.dm_words.specs.inner.Scan.Walk.{Step, Takes, Stops, Walked, walk_all, flat}
 
 -- ---- the values of a run, each below 40
+
+-- The items of bytes are these bytes, in order.
+abbrev pub byte_items : List ℕ → List Item
+byte_items bytes = map Byte bytes
 
 -- Behind an Upper Shift and a shift, the meaning of the next value decides which item is taken.
 abbrev pub raised_shifted : Option Shifted → Step Item Rest
@@ -145,6 +147,10 @@ run_behind extent set place words = let pairs =
 -- A place of the symbol has this pseudo-random number.
 abbrev pub random_at : ℕ → ℕ
 random_at place = (149 * place) % 255 + 1
+
+-- A value of EDIFACT that isn't the unlatch stands for this byte.
+abbrev pub edifact_byte : ℕ → ℕ
+edifact_byte value = if nat_lt value 31 then value + 64 else value
 
 -- Each number is 0 to 255.
 abbrev pub AreBytes : List ℕ → Type 0

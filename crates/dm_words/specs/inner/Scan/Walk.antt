@@ -1,5 +1,6 @@
 -- Going through a list from the left, piece by piece.
-use Rattle.std.specs.Prelude.{ℕ, zero, suc, ◌+◌, List, [], ◌∷◌, ◌++◌, length, drop}
+use Rattle.std.specs.Prelude.{ℕ, zero, suc, ◌+◌, List, [], ◌∷◌, ◌++◌, length, drop, map}
+use Rattle.dm_words.specs.Joined.{Piece}
 
 -- A step finds first of a list a piece of some number of words, or nothing that can be taken.
 pub data Step (A S : Type 0) : Type 0 where
@@ -40,3 +41,8 @@ module _ {B : Type 0} where
   abbrev pub flat : List (List B) → List B
   flat [] = []
   flat (list ∷ lists) = list ++ flat lists
+
+module _ {C : Type 0} where
+  -- What the pieces stand for is listed in order.
+  abbrev pub whats : List (Piece C) → List C
+  whats pieces = map (λ piece. piece.what) pieces
