@@ -159,12 +159,8 @@ def write_stubs(edits, room):
             if function and function not in own:
                 lines[slice(*body)] = [match[1] + "    loop {}"]
                 stubs.append(function)
-        text = "\n".join(lines)
-        if file == "src/main.rt":
-            # (a program is checked as a library, for which what it links isn't read, and which gives no name on)
-            text = re.sub(r"(?m)^fn main\b", "fn program", re.sub(r"(?m)^pub use ", "use ", text))
-        places.wrote(text, path)
-    return ["program" if it == "main" else it for it in stubs]
+        places.wrote("\n".join(lines), path)
+    return stubs
 
 
 def copy_proof(crate, room, path, to):

@@ -5,21 +5,11 @@
 //! `dm_text`'s, whose names are given on here.
 #![tactic(auto)]
 
-mod command_line;
-mod ending;
-mod fault;
-pub mod laws;
-#[cfg(test)]
-mod tests;
-
-pub use command_line::task_of;
+pub use dm_command::{CallFault, call_ending, ending, laws, task_of};
 pub use dm_text::{
     Failed, Fed, FromRead, GridFeed, LineFault, LineFed, LineFeed, Profile, RecordFault, RunFault,
     Sink, Source, Tally, Task, ToWrite, message_from, message_text, run, run_streams,
 };
-use ending::call_ending;
-pub use ending::ending;
-pub use fault::CallFault;
 use std::io::Write;
 use std::process::ExitCode;
 use std::{env, io};

@@ -2,7 +2,7 @@
 //! public calls.
 //!
 //! These tests stand above all crates that they are about, so that none of these is proved a second time with its
-//! tests. There is nothing else here. The tests of the command line are in the program's own crate.
+//! tests. There is nothing else here.
 #![tactic(auto)]
 
 #[cfg(test)]
@@ -11,6 +11,8 @@ mod block;
 mod calls;
 #[cfg(test)]
 mod claims;
+#[cfg(test)]
+mod command;
 #[cfg(test)]
 mod field;
 #[cfg(test)]

@@ -1,0 +1,2 @@
+-- Definitions that the contracts of private functions cite; no public contract and no law does.
+pub mod CommandReads

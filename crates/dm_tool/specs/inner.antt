@@ -1,3 +1,0 @@
--- Definitions that the contracts of private functions cite; no public contract and no law does.
-pub mod CommandReads
-pub mod CallEndings
