@@ -5,6 +5,8 @@
 enum { FIRST_REACH = 4, STEP = 2, SIDES_OF_A_PART = 4 };
 static const double LEAST_CLEAR = 0.12; /* of the places between modules, of which about half have an edge */
 static const double LEAST_NEAR = 0.5;   /* of the clear edges */
+/* Of those of its first modules: of the lattice that two waves give, which isn't fitted to edges yet, and then. */
+static const double LEAST_UNFITTED = 0.5, LEAST_FIRST = 0.6;
 static const double LEAST_SHARE = 0.35; /* of the mean contrast, for an edge to be clear */
 static const double STIFF = 0.1, UNIT = 32;
 
@@ -88,11 +90,15 @@ bool grow_lattice(const struct ground *ground, const struct homography *to_pictu
     struct lattice lattice = {settled(grey, to_picture), {-FIRST_REACH, FIRST_REACH, -FIRST_REACH, FIRST_REACH}, 0};
     bool fits[SIDES_OF_A_PART] = {true, true, true, true};
     lay_out_places(room, lattice.part);
-    refine(grey, room, lattice.part, STIFF, 3, 0, &lattice.warp);
     double least = LEAST_SHARE * mean_contrast(grey, room, &lattice.warp);
     lattice.near = near_in(ground, room, &lattice, lattice.part, least);
+    if (lattice.near >= LEAST_UNFITTED) {
+        refine(grey, room, lattice.part, STIFF, 3, 0, &lattice.warp);
+        least = LEAST_SHARE * mean_contrast(grey, room, &lattice.warp);
+        lattice.near = near_in(ground, room, &lattice, lattice.part, least);
+    }
     *out = lattice;
-    if (lattice.near < LEAST_NEAR)
+    if (lattice.near < LEAST_FIRST)
         return false;
     lattice.warp.is_bent = true;
     while (!limit_reached(limit) && has_room(lattice.part) && grow(ground, room, least, fits, &lattice)) {

@@ -1,8 +1,11 @@
 /* Tries whether the sampler tells readings apart that differ in what they say, whatever else they share; whether it
- * looks for the margin at each block; and what it does where the rules for known damage disagree; for tests/sampler. */
+ * looks for the margin at each block; what it does where the rules for known damage disagree; and which lattices grow;
+ * for tests/sampler. */
 #define ecc200_read read_anything /* for the file that is tried: defined below */
 #include "judge.c"
 #undef ecc200_read
+
+#include "lattice.h"
 
 #include <math.h>
 #include <stdio.h>
@@ -101,10 +104,34 @@ static int stays_as_it_is(void) {
            fabs(warp_point(&smeared.warp, 12, 12).x - 38) < 1e-9;
 }
 
+/* Whether a lattice of modules as wide as this, around the middle of modules that are six pixels wide, grows. */
+static int grows(double module) {
+    enum { MODULE = 6, SIDE = 40 * MODULE };
+    static uint8_t pixels[SIDE * SIDE];
+    static struct layout room;
+    struct plane picture = {.width = SIDE, .height = SIDE, .stride = SIDE, .pixels = pixels}, grey;
+    struct limit limit = limit_from_now(ECC200_SAMPLE_ANY_TIME, ECC200_SAMPLE_ANY_EFFORT, 1);
+    struct known known = {.is_empty = true};
+    struct homography to_picture = {{{module, 0, SIDE / 2}, {0, module, SIDE / 2}, {0, 0, 1}}};
+    struct lattice lattice;
+    for (int k = 0; k < SIDE * SIDE; k++) {
+        int row = k / SIDE / MODULE, column = k % SIDE / MODULE;
+        pixels[k] = (row * 7 + column * 11 + row * column) % 5 < 2 ? 20 : 230;
+    }
+    if (!plane_smooth(&picture, &limit, &grey))
+        return -1;
+    int is_grown = grow_lattice(&(struct ground){&grey, &known, 1}, &to_picture, &room, &limit, &lattice) &&
+                   lattice.part.last_x - lattice.part.first_x > 30;
+    plane_free(&grey);
+    return is_grown;
+}
+
 int main(void) {
-    int wrong = check_margins(), is_known_right = is_kept(1) && !is_kept(0), is_flat_right = stays_as_it_is();
-    printf("%s%s", is_known_right ? "" : "known damage\n", is_flat_right ? "" : "a flat square\n");
-    wrong += !is_known_right + !is_flat_right;
+    int wrong = check_margins(), is_known_right = is_kept(1) && !is_kept(0), is_flat_right = stays_as_it_is(),
+        is_grown_right = grows(6) && grows(5.7) && grows(6.3) && !grows(5.35) && !grows(6.6);
+    printf("%s%s%s", is_known_right ? "" : "known damage\n", is_flat_right ? "" : "a flat square\n",
+           is_grown_right ? "" : "lattices\n");
+    wrong += !is_known_right + !is_flat_right + !is_grown_right;
     reset();
     wrong += check("nothing", 1);
     other.border_faults = 3, other.corrected[0] = 2, other.items[3] = 9, other.marks[2].number = 9;
