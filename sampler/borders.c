@@ -102,12 +102,16 @@ static bool may_alternate(struct strip one, struct strip other) {
 /* Keeps the borders of so many columns and rows that begin at a module. */
 static void look_at(const struct both *both, int x, int y, struct extent box, struct border *out, int room,
                     int *count) {
-    const struct strip strips[STRIPS] = {[TOP] = strip_of(&both->rows, y, x, box.wide),
-                                      [BELOW] = strip_of(&both->rows, y + box.high - 1, x, box.wide),
-                                      [LEFT] = strip_of(&both->columns, x, y, box.high),
-                                      [RIGHT] = strip_of(&both->columns, x + box.wide - 1, y, box.high)};
-    bool may_be = may_alternate(strips[TOP], strips[BELOW]) && may_alternate(strips[LEFT], strips[RIGHT]);
-    for (int way = 0; way < 2 * WAYS && may_be; way++) {
+    struct strip strips[STRIPS];
+    strips[TOP] = strip_of(&both->rows, y, x, box.wide);
+    strips[BELOW] = strip_of(&both->rows, y + box.high - 1, x, box.wide);
+    if (!may_alternate(strips[TOP], strips[BELOW]))
+        return;
+    strips[LEFT] = strip_of(&both->columns, x, y, box.high);
+    strips[RIGHT] = strip_of(&both->columns, x + box.wide - 1, y, box.high);
+    if (!may_alternate(strips[LEFT], strips[RIGHT]))
+        return;
+    for (int way = 0; way < 2 * WAYS; way++) {
         int turns = way % WAYS;
         bool is_inverted = way >= WAYS;
         struct right right = right_in(strips, turns);

@@ -12,7 +12,7 @@ struct corner {
     int x, y;
 };
 
-/* A corner of the path at which it turns, and its number there. */
+/* A corner of the path at which it turns, and its number there: from one to the next the path is straight. */
 struct turn {
     struct corner at;
     int step;
@@ -21,7 +21,6 @@ struct turn {
 struct tracing {
     const struct plane *dark;
     uint8_t *seen;           /* for each pixel, whether its left side was passed on the way up */
-    struct corner *path;
     struct turn *turns;      /* with both ends of the path */
     int count, turn_count, room;
     double least;
@@ -29,84 +28,99 @@ struct tracing {
     struct lines *lines;
 };
 
-/* Makes room for one corner more, and a turn at it. False if there is no memory. */
-static bool has_place(struct tracing *tracing) {
-    if (tracing->count < tracing->room)
-        return true;
-    int room = tracing->room ? 2 * tracing->room : 1024;
-    struct corner *path = realloc(tracing->path, (size_t)room * sizeof *path);
-    tracing->path = path != NULL ? path : tracing->path;
-    struct turn *turns = realloc(tracing->turns, (size_t)room * sizeof *turns);
-    tracing->turns = turns != NULL ? turns : tracing->turns;
-    if (path != NULL && turns != NULL)
-        tracing->room = room;
-    return path != NULL && turns != NULL;
-}
-
-static bool push(struct tracing *tracing, int x, int y, bool is_turn) {
-    if (!has_place(tracing))
-        return false;
-    struct corner at = {x, y};
-    if (is_turn)
-        tracing->turns[tracing->turn_count++] = (struct turn){at, tracing->count};
-    tracing->path[tracing->count++] = at;
+/* Takes note of a turn of the path, or of its end. False if there is no memory. */
+static bool push(struct tracing *tracing, struct corner at) {
+    if (tracing->turn_count == tracing->room) {
+        int room = tracing->room > 0 ? 2 * tracing->room : 1024;
+        struct turn *turns = realloc(tracing->turns, (size_t)room * sizeof *turns);
+        if (turns == NULL)
+            return false;
+        tracing->turns = turns, tracing->room = room;
+    }
+    tracing->turns[tracing->turn_count++] = (struct turn){at, tracing->count};
     return true;
 }
 
 /* Goes around a dark area along the sides of its pixels, the area on the right, from the lower left corner of pixel (x,
- * y) upwards. Behind the last corner of the path the first one stands once more. */
+ * y) upwards. Behind the last turn of the path the first one stands once more. */
 static bool trace(struct tracing *tracing, int x, int y) {
     ptrdiff_t row = (ptrdiff_t)tracing->dark->stride;
     const int step_x[] = {0, 1, 0, -1}, step_y[] = {-1, 0, 1, 0}; /* up, right, down, left */
     const ptrdiff_t step[] = {-row, 1, row, -1};
     const ptrdiff_t left[] = {-row - 1, -row, 0, -1}, right[] = {-row, 0, -1, -row - 1}; /* the pixels ahead */
     const uint8_t *at = pixel_of(tracing->dark, x, y + 1); /* the pixel to the lower right of the corner */
-    int at_x = x, at_y = y + 1, way = 0;
+    int at_x = x, at_y = y + 1;
+    unsigned way = 0;
     tracing->count = tracing->turn_count = 0;
     do {
         if (way == 0)
             tracing->seen[(size_t)(at_y - 1) * (size_t)tracing->dark->width + (size_t)at_x] = 1;
         at_x += step_x[way], at_y += step_y[way], at += step[way];
-        int next = at[left[way]] != 0 ? (way + 3) % 4 : at[right[way]] == 0 ? (way + 1) % 4 : way;
-        if (tracing->count < MOST_STEPS && !push(tracing, at_x, at_y, next != way || tracing->count == 0))
+        unsigned next = at[left[way]] != 0 ? (way + 3) % 4 : at[right[way]] == 0 ? (way + 1) % 4 : way;
+        bool is_turn = next != way || tracing->count == 0;
+        if (is_turn && tracing->count < MOST_STEPS && !push(tracing, (struct corner){at_x, at_y}))
             return false;
-        way = next;
+        tracing->count += tracing->count < MOST_STEPS, way = next;
     } while (at_x != x || at_y != y + 1 || way != 0);
     limit_spend(tracing->limit, WORK_OF_A_STEP * (int64_t)tracing->count);
-    return push(tracing, tracing->path[0].x, tracing->path[0].y, true) && tracing->count-- > 0;
+    return push(tracing, tracing->turns[0].at);
 }
 
-static struct point place(const struct tracing *tracing, int k) {
-    struct corner corner = tracing->path[k];
+/* Sums over corners of a path. They are whole numbers, so none is rounded. */
+struct sums {
+    double n, x, y, xx, xy, yy;
+};
+
+/* Adds so many corners from one on, each a step behind the one before. */
+static void add_run(struct corner from, struct corner step, int count, struct sums *sums) {
+    double n = count, x = from.x, y = from.y, right = step.x, down = step.y;
+    double ways = n * (n - 1) / 2, squares = ways * (2 * n - 1) / 3;
+    sums->n += n, sums->x += n * x + ways * right, sums->y += n * y + ways * down;
+    sums->xx += n * x * x + 2 * ways * x * right + squares * right * right;
+    sums->xy += n * x * y + ways * (x * down + y * right) + squares * right * down;
+    sums->yy += n * y * y + 2 * ways * y * down + squares * down * down;
+}
+
+/* Adds the corners from step `first` to step `last` that lie from one turn up to, not including, the next. */
+static void add_between(const struct turn *turn, const struct turn *next, int first, int last, struct sums *sums) {
+    int steps = next->step - turn->step, begin = first > turn->step ? first - turn->step : 0,
+        end = last < next->step ? last + 1 - turn->step : steps;
+    if (begin >= end)
+        return;
+    struct corner step = {(next->at.x - turn->at.x) / steps, (next->at.y - turn->at.y) / steps},
+                  from = {turn->at.x + begin * step.x, turn->at.y + begin * step.y};
+    add_run(from, step, end - begin, sums);
+}
+
+static struct point place(struct corner corner) {
     return point_at(corner.x, corner.y);
 }
 
-/* The line that fits best to the path from `first` to `last`, from the foot of one end to that of the other. */
-static struct line fit_line(const struct tracing *tracing, int first, int last) {
-    double n = 0, x = 0, y = 0, xx = 0, xy = 0, yy = 0;
-    int rim = (last - first) / 12;
-    for (int k = first + rim; k <= last - rim; k++) {
-        struct point at = place(tracing, k);
-        n++, x += at.x, y += at.y, xx += at.x * at.x, xy += at.x * at.y, yy += at.y * at.y;
-    }
-    struct point middle = point_at(x / n, y / n), from = place(tracing, first), to = place(tracing, last);
-    double angle = 0.5 * atan2(2 * (xy - x * y / n), xx - x * x / n - yy + y * y / n);
+/* The line that fits best to the path from one turn to another, from the foot of one end to that of the other. */
+static struct line fit_line(const struct turn *first, const struct turn *last) {
+    struct sums sums = {0};
+    int rim = (last->step - first->step) / 12;
+    for (const struct turn *turn = first; turn < last; turn++)
+        add_between(turn, turn + 1, first->step + rim, last->step - rim, &sums);
+    if (rim == 0)
+        add_run(last->at, (struct corner){0, 0}, 1, &sums);
+    double n = sums.n, x = sums.x, y = sums.y;
+    struct point middle = point_at(x / n, y / n), from = place(first->at), to = place(last->at);
+    double angle = 0.5 * atan2(2 * (sums.xy - x * y / n), sums.xx - x * x / n - sums.yy + y * y / n);
     struct point along = turn_by(point_at(1, 0), angle);
     if (dot(along, difference(to, from)) < 0)
         along = scale_by(along, -1);
-    return (struct line){.from = sum(middle, scale_by(along, dot(difference(from, middle), along))),
-                         .to = sum(middle, scale_by(along, dot(difference(to, middle), along)))};
-}
-
-static double extent(const struct line *line) {
-    return length(difference(line->to, line->from));
+    from = sum(middle, scale_by(along, dot(difference(from, middle), along)));
+    to = sum(middle, scale_by(along, dot(difference(to, middle), along)));
+    return (struct line){from, to, length(difference(to, from)), false};
 }
 
 static int by_length(const void *one, const void *other) {
     const struct line *a = one, *b = other;
-    double long_a = extent(a), long_b = extent(b);
+    if (a->length != b->length)
+        return a->length < b->length ? 1 : -1;
     int place = by_place(a->from, b->from);
-    return long_a < long_b ? 1 : long_a > long_b ? -1 : place ? place : by_place(a->to, b->to);
+    return place ? place : by_place(a->to, b->to);
 }
 
 /* Makes room for one line more. False if there is no memory. */
@@ -165,8 +179,8 @@ static bool cut(const struct tracing *tracing) {
         if (turns[last].step - turns[first].step < tracing->least)
             continue;
         if (farthest(tracing, first, last, &where) <= BEND) {
-            struct line line = fit_line(tracing, turns[first].step, turns[last].step);
-            if (extent(&line) >= tracing->least)
+            struct line line = fit_line(&turns[first], &turns[last]);
+            if (line.length >= tracing->least)
                 enough = keep(tracing->lines, line);
         } else if (depth + 2 <= MOST_PENDING) {
             pending[depth][0] = where, pending[depth++][1] = last;
@@ -272,7 +286,7 @@ static struct line joined_from(const struct lines *lines, const struct starts *s
         if (is_before || is_behind)
             strip = strip_along(&joined);
     }
-    joined.is_joined = true;
+    joined.is_joined = true, joined.length = length(difference(joined.to, joined.from));
     return joined;
 }
 
@@ -288,7 +302,7 @@ static bool join(struct lines *lines, struct limit *limit) {
     for (int k = 0; k < count && enough && !limit_reached(limit); k++) {
         struct line joined = joined_from(lines, &starts, k);
         limit_spend(limit, count / PIECES_AT_A_UNIT);
-        if (extent(&joined) > extent(&lines->items[k]) + 1)
+        if (joined.length > lines->items[k].length + 1)
             enough = keep(lines, joined);
     }
     free(starts.x);
@@ -328,7 +342,6 @@ bool find_lines(const struct plane *dark, double least, struct limit *limit, str
                      (trace(&tracing, x, y) && (tracing.count < LEAST_STEPS || cut(&tracing)));
     }
     free(tracing.seen);
-    free(tracing.path);
     free(tracing.turns);
     return enough && join(out, limit);
 }

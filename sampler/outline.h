@@ -7,6 +7,7 @@
 /* Who goes from `from` to `to` has the dark area on the right, in a picture whose y grows downwards. */
 struct line {
     struct point from, to;
+    double length;
     bool is_joined; /* whether it is made up of several straight pieces */
 };
 

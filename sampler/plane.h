@@ -94,16 +94,6 @@ static inline bool is_between_pixels(const struct plane *plane, struct point at)
     return at.x >= 0.5 && at.y >= 0.5 && at.x < plane->width - 0.5 && at.y < plane->height - 0.5;
 }
 
-/* The brightness at such a point, by the distances of these. */
-static inline double brightness_between(const struct plane *plane, struct point at) {
-    double x = at.x - 0.5, y = at.y - 0.5;
-    int column = (int)x, row = (int)y;
-    const uint8_t *here = pixel_of(plane, column, row), *below = here + plane->stride;
-    double right = x - column, down = y - row;
-    double upper = here[0] + right * (here[1] - here[0]), lower = below[0] + right * (below[1] - below[0]);
-    return upper + down * (lower - upper);
-}
-
 /* The brightness at a point, between the centres of pixels by their distances; outside, that of the nearest pixel. */
 static inline double brightness(const struct plane *plane, struct point at) {
     double least = -plane->frame, x = at.x - 0.5, y = at.y - 0.5, most_x = plane->width - 1 - least,

@@ -22,6 +22,7 @@ struct window {
     float seen[SIDE][SIDE];
     struct number waves[SIDE][SIDE];
     struct number roots[HALF];
+    int turned_over[SIDE]; /* where the Fourier transform takes its numbers from */
 };
 
 /* ---- The Fourier transform */
@@ -34,14 +35,14 @@ static int turned_over(int k) {
 }
 
 /* Transforms a line of numbers, each `step` after the one before. */
-static void transform(struct number *line, int step, const struct number roots[HALF]) {
+static void transform(struct number *line, int step, const struct window *window) {
     struct number of[SIDE];
     for (int k = 0; k < SIDE; k++)
-        of[turned_over(k)] = line[k * step];
+        of[k] = line[window->turned_over[k] * step];
     for (int span = 1; span < SIDE; span *= 2)
         for (int first = 0; first < SIDE; first += 2 * span)
             for (int k = first; k < first + span; k++) {
-                struct number root = roots[(k - first) * (HALF / span)], high = of[k + span], low = of[k];
+                struct number root = window->roots[(k - first) * (HALF / span)], high = of[k + span], low = of[k];
                 struct number product = {root.re * high.re - root.im * high.im, root.re * high.im + root.im * high.re};
                 of[k] = (struct number){low.re + product.re, low.im + product.im};
                 of[k + span] = (struct number){low.re - product.re, low.im - product.im};
@@ -82,12 +83,14 @@ static void find_spectrum(struct window *window) {
     for (int row = 0; row < SIDE; row++)
         for (int column = 0; column < SIDE; column++)
             window->waves[row][column] = (struct number){window->seen[row][column], 0};
+    for (int k = 0; k < SIDE; k++)
+        window->turned_over[k] = turned_over(k);
     for (int k = 0; k < HALF; k++)
         window->roots[k] = (struct number){(float)cos(2 * PI * k / SIDE), (float)-sin(2 * PI * k / SIDE)};
     for (int row = 0; row < SIDE; row++)
-        transform(window->waves[row], 1, window->roots);
+        transform(window->waves[row], 1, window);
     for (int column = 0; column < SIDE; column++)
-        transform(&window->waves[0][column], SIDE, window->roots);
+        transform(&window->waves[0][column], SIDE, window);
 }
 
 /* ---- The strongest waves */
@@ -95,7 +98,7 @@ static void find_spectrum(struct window *window) {
 /* How strong the wave is that has so many cycles in the window each way. */
 static double strength_at(const struct window *window, int x, int y) {
     struct number wave = window->waves[(y + SIDE) % SIDE][(x + SIDE) % SIDE];
-    return hypot(wave.re, wave.im);
+    return sqrt((double)wave.re * wave.re + (double)wave.im * wave.im);
 }
 
 static bool is_peak(const struct window *window, int x, int y) {

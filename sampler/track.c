@@ -54,17 +54,30 @@ static bool add_turn(struct rhythm *rhythm, double place) {
     return true;
 }
 
+/* A coordinate in whole numbers, of which so many bits are behind the point. */
+enum { FRACTION = 32 };
+static int64_t whole_of(double at) {
+    return (int64_t)(at * ((int64_t)1 << FRACTION));
+}
+
+/* The pixel that such a coordinate lies in; outside, the nearest one of the frame. */
+static int framed(int64_t at, int count) {
+    return at < 0 ? -1 : at >> FRACTION < count ? (int)(at >> FRACTION) : count;
+}
+
 /* Follows the turns of brightness along the track, of at least `least` in brightness, and counts those that come
  * evenly. Where a light module is sought, brightness is taken below 0. Returns how many steps it went. */
 static int follow(const struct plane *grey, struct track *track, double module, double longest, int least) {
     struct rhythm rhythm = {0};
-    double step = fmax(module / 7, 0.5), place = 0, still = still_from(&rhythm, module);
+    double step = module / 7 > 0.5 ? module / 7 : 0.5, place = 0, still = still_from(&rhythm, module);
     int sign = 1, extreme = 255, steps = 0;
-    struct point at = track->from, move = scale_by(track->along, step);
-    bool is_inside = shows(grey, at) && shows(grey, sum(at, scale_by(track->along, longest + step)));
+    int64_t x = whole_of(track->from.x), y = whole_of(track->from.y), right = whole_of(step * track->along.x),
+            down = whole_of(step * track->along.y);
+    bool is_inside = shows(grey, track->from) && shows(grey, sum(track->from, scale_by(track->along, longest + step)));
     track->darks = 0;
-    for (double way = 0; way < longest && way <= still; way += step, at = sum(at, move), steps++) {
-        int here = sign * (is_inside ? *pixel_of(grey, (int)at.x, (int)at.y) : grey_at(grey, at));
+    for (double way = 0; way < longest && way <= still; way += step, x += right, y += down, steps++) {
+        int here = sign * *(is_inside ? pixel_of(grey, (int)(x >> FRACTION), (int)(y >> FRACTION))
+                                      : pixel_of(grey, framed(x, grey->width), framed(y, grey->height)));
         if (here < extreme)
             extreme = here, place = way;
         if (here < extreme + least)

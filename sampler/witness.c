@@ -1,6 +1,7 @@
 #include "witness.h"
 
 #include <math.h>
+#include <stdlib.h>
 #include <string.h>
 
 /* An edge is looked for along a line across it, on which the picture is sampled TICK modules apart: the steepest place
@@ -44,45 +45,66 @@ static bool is_inside(const struct plane *plane, const struct line_across *line)
            is_between_pixels(plane, difference(to, line->beside));
 }
 
-/* The brightness across an edge, at each tick the mean of three places along it. */
+/* Pixels, and levels of brightness, in whole numbers: so many bits of them are behind the point. */
+enum { FRACTION = 16, HALF_OF_IT = FRACTION / 2, PLACES = 3 };
+
+static int whole_of(double at) {
+    return (int)(at * (1 << FRACTION));
+}
+
+/* The brightness between the centres of pixels, of which this one lies at the upper left. */
+static inline int level_between(const struct plane *plane, int x, int y) {
+    enum { MOST = (1 << HALF_OF_IT) - 1 };
+    const uint8_t *here = pixel_of(plane, x >> FRACTION, y >> FRACTION), *below = here + plane->stride;
+    int right = x >> HALF_OF_IT & MOST, down = y >> HALF_OF_IT & MOST;
+    int upper = (here[0] << HALF_OF_IT) + right * (here[1] - here[0]),
+        lower = (below[0] << HALF_OF_IT) + right * (below[1] - below[0]);
+    return (upper << HALF_OF_IT) + down * (lower - upper);
+}
+
+/* The brightness across an edge, at each tick the sum of PLACES along it. */
 static void profile_of(const struct plane *plane, const struct warp *warp, const struct witness *witness,
-                       double profile[SAMPLES]) {
+                       int profile[SAMPLES]) {
     struct line_across line = line_across(warp, witness);
     struct point at = line.from, beside = line.beside;
-    if (is_inside(plane, &line))
-        for (int k = 0; k < SAMPLES; k++, at = sum(at, line.step))
-            profile[k] = (brightness_between(plane, at) + brightness_between(plane, sum(at, beside)) +
-                          brightness_between(plane, difference(at, beside))) /
-                         3;
-    else
-        for (int k = 0; k < SAMPLES; k++, at = sum(at, line.step))
-            profile[k] = (brightness(plane, at) + brightness(plane, sum(at, beside)) +
-                          brightness(plane, difference(at, beside))) /
-                         3;
+    if (is_inside(plane, &line)) {
+        int x = whole_of(at.x - 0.5), y = whole_of(at.y - 0.5), right = whole_of(line.step.x),
+            down = whole_of(line.step.y), across = whole_of(beside.x), along = whole_of(beside.y);
+        for (int k = 0; k < SAMPLES; k++, x += right, y += down)
+            profile[k] = level_between(plane, x, y) + level_between(plane, x + across, y + along) +
+                         level_between(plane, x - across, y - along);
+        return;
+    }
+    for (int k = 0; k < SAMPLES; k++, at = sum(at, line.step))
+        profile[k] = whole_of(brightness(plane, at) + brightness(plane, sum(at, beside)) +
+                              brightness(plane, difference(at, beside)));
+}
+
+/* The rise from tick to tick, by the sums of WINDOW ticks before and behind each. */
+static void find_rises(const int profile[SAMPLES], int darkens, int rises[2 * REACH + 1]) {
+    int rise = 0;
+    for (int j = 0; j < WINDOW; j++)
+        rise += profile[WINDOW + 1 + j] - profile[j];
+    for (int k = 0; k <= 2 * REACH; k++) {
+        rises[k] = darkens == UNKNOWN ? abs(rise) : darkens == DARK ? -rise : rise;
+        if (k < 2 * REACH)
+            rise += profile[k + 2 * WINDOW + 1] - profile[k + WINDOW + 1] - profile[k + WINDOW] + profile[k];
+    }
 }
 
 /* How far the edge is from where it should be, in modules; returns its contrast, 0 or less if there is none. */
-static double offset_of(const double profile[SAMPLES], int darkens, double *offset) {
-    double rises[2 * REACH + 1];
-    int best = 0;
-    for (int k = 0; k <= 2 * REACH; k++) {
-        double before = 0, after = 0;
-        for (int j = 0; j < WINDOW; j++)
-            before += profile[k + j], after += profile[k + WINDOW + 1 + j];
-        rises[k] = (darkens == UNKNOWN ? fabs(before - after)
-                    : darkens == DARK  ? before - after
-                                       : after - before) /
-                   WINDOW;
-        if (rises[k] > rises[best])
-            best = k;
-    }
+static double offset_of(const int profile[SAMPLES], int darkens, double *offset) {
+    int rises[2 * REACH + 1], best = 0;
+    find_rises(profile, darkens, rises);
+    for (int k = 1; k <= 2 * REACH; k++)
+        best = rises[k] > rises[best] ? k : best;
     double bend = 0;
     if (best > 0 && best < 2 * REACH) {
-        double left = rises[best - 1], right = rises[best + 1], curve = left + right - 2 * rises[best];
+        double left = rises[best - 1], right = rises[best + 1], curve = left + right - 2.0 * rises[best];
         bend = curve < 0 ? 0.5 * (left - right) / curve : 0;
     }
     *offset = TICK * (best - REACH + bend);
-    return best == 0 || best == 2 * REACH ? 0 : rises[best];
+    return best == 0 || best == 2 * REACH ? 0 : rises[best] / ((double)PLACES * WINDOW * (1 << FRACTION));
 }
 
 /* The equations of least squares for the eight parameters of a small projective change, in coordinates from -0.5 to
@@ -137,7 +159,7 @@ static int look_at(const struct plane *plane, const struct layout *layout, struc
         const struct witness *witness = &layout->witnesses[k];
         if (!lies_in(witness, part) || seen++ % every > 0)
             continue;
-        double profile[SAMPLES];
+        int profile[SAMPLES];
         profile_of(plane, warp, witness, profile);
         edges[count].witness = witness;
         edges[count].contrast = offset_of(profile, witness->darkens, &edges[count].offset);

@@ -1,5 +1,5 @@
 /* Tries what the sampler does with points far outside of a picture, as a projection may give them, how much work it
- * allows itself, and how it joins straight pieces; for tests/sampler. */
+ * allows itself, and how it fits straight pieces and joins them; for tests/sampler. */
 #include "limit.h"
 #include "outline.h"
 #include "plane.h"
@@ -55,6 +55,29 @@ static int are_joined(int right, int down) {
     return is_whole;
 }
 
+/* Whether the sides of a slanted bar are found as they are drawn, within a tenth of a pixel from end to end. */
+static int are_slanted(void) {
+    enum { SIDE = 240, STRIDE = SIDE + 2, THICK = 20 };
+    static uint8_t pixels[STRIDE * STRIDE];
+    struct plane dark = {SIDE, SIDE, 1, STRIDE, pixels + STRIDE + 1, NULL};
+    struct limit limit = limit_from_now(ECC200_SAMPLE_ANY_TIME, ECC200_SAMPLE_ANY_EFFORT, 1);
+    struct lines lines = {0};
+    const double slope = 0.23;
+    int right = 0;
+    for (int k = 0; k < SIDE * SIDE; k++) {
+        double x = k % SIDE + 0.5, y = k / SIDE + 0.5 - 90 - slope * x;
+        pixels[(k / SIDE + 1) * STRIDE + k % SIDE + 1] = x > 20 && x < 220 && y > 0 && y < THICK;
+    }
+    if (find_lines(&dark, 100, &limit, &lines))
+        for (int k = 0; k < lines.count && k < 2; k++) {
+            const struct line *line = &lines.items[k];
+            double upper = line->from.y - 90 - slope * line->from.x, lower = line->to.y - 90 - slope * line->to.x;
+            right += fabs(upper - lower) < 0.1 && fabs(fabs(upper - THICK / 2.0) - THICK / 2.0) < 0.3;
+        }
+    lines_free(&lines);
+    return right == 2;
+}
+
 int main(void) {
     static const uint8_t pixels[] = {11, 12, 13, 14, 15, 16, 17, 18, 19};
     const struct plane plain = {.width = 3, .height = 3, .stride = 3, .pixels = pixels};
@@ -69,6 +92,6 @@ int main(void) {
             }
         }
     int is_joined = are_joined(3, 4) && are_joined(1100, 250) && are_joined(600, 150);
-    printf("%s%s", is_work_right() ? "" : "work", is_joined ? "" : "joined");
-    return !is_work_right() || !is_joined;
+    printf("%s%s%s", is_work_right() ? "" : "work", is_joined ? "" : "joined", are_slanted() ? "" : "slanted");
+    return !is_work_right() || !is_joined || !are_slanted();
 }
