@@ -1,15 +1,20 @@
 -- The distance of two words, and that of two codewords.
 use Rattle.std.proofs.Common.{◌≡◌, ◌≢◌, ℕ, zero, suc, ◌+◌, ◌<◌, ◌≤◌, List, [], ◌∷◌, ◌++◌, length, get_or, refl, sym, ap}
-use Rattle.std.proofs.Common.{subst, ◌∙◌, arith, inl, inr, length-append, cond}
+use Rattle.std.proofs.Common.{subst, ◌∙◌, arith, inl, inr, length-append, cond, ◌==◌, if◌then◌else◌}
 use Rattle.std.proofs.lemmas.Bool.{cases_lt, cases_eq, eq-eqb, ne_eqb}
 use Rattle.std.proofs.lemmas.List.{get_or_append_left, append_cancel_left, ext_get_or}
 use lib.Bits.{xor_self}
 use Rattle.gf301.specs.Field.{◌⊕◌}
 use Rattle.gf301.proofs.Exported.{sum_zero, plus, nonzeros, same_from_values}
-use Rattle.dm_code.specs.Codeword.{IsCodeword, IsNear, differs, differing, distance}
+use Rattle.dm_code.specs.Codeword.{IsCodeword, IsNear, differing, distance}
 use Rattle.dm_code.proofs.Codewords.{codeword_bytes, codeword_values}
 
 -- ---- one place
+
+-- Two numbers count 0 if they are the same, and 1 otherwise.
+abbrev pub differs : ℕ → ℕ → ℕ
+differs a b = if a == b then 0 else 1
+
 -- Two equal numbers count 0.
 pub differs_same : (a b : ℕ) → a ≡ b → differs a b ≡ 0
 differs_same a b e = ap (λ t. cond t 0 1) (eq-eqb a b e)

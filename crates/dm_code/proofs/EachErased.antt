@@ -13,7 +13,7 @@ use Rattle.gf301.specs.Generator.{generator}
 use Rattle.gf301.proofs.Exported.{factor_value, length_times, product_assoc, product_cancel, product_cancels}
 use Rattle.gf301.proofs.Exported.{product_comm, product_one_right, product_positive, product_zero_left}
 use Rattle.gf301.proofs.Exported.{product_zero_right, raise_below, value_below, value_one, value_times}
-use Rattle.dm_code.specs.Erased.{IsNearBut, distance_but, erased_places_from, erased_places}
+use Rattle.dm_code.specs.Erased.{IsNearBut, distance_but, erased_places_from}
 use Rattle.dm_code.specs.inner.Lessened.{AreValues, IsAscending, IsSameBut, IsWeighed, places_locator}
 use Rattle.dm_code.proofs.Codewords.{codeword_bytes}
 use Rattle.dm_code.proofs.ErrorPlaces.{locator_at}
@@ -71,7 +71,7 @@ erased_within n m (true ∷ l) h (suc i) d b = erased_within (suc n) m l (omega 
 erased_within n m (false ∷ l) h i d b = erased_within (suc n) m l (omega arith) i d b
 
 -- The places of a word that a list of them has, however they are handed on.
-pub places_within : (w q : List ℕ) (e : List Bool) → length e ≡ length w → q ≡ erased_places e → (i d : ℕ) →
+pub places_within : (w q : List ℕ) (e : List Bool) → length e ≡ length w → q ≡ erased_places_from 0 e → (i d : ℕ) →
     i < length q → get_or q i d < length w
 places_within w q e h z i d b =
     subst (λ t. get_or t i d < length w) (sym z)

@@ -7,14 +7,13 @@ use Rattle.std.proofs.Math.Nat.{pos_of_ne-zero}
 use lib.Bits.{xor_zero_r, xor_zero_l, xor_self}
 use Rattle.gf301.specs.Field.{◌⊕◌, ◌⊗◌, raise, power}
 use Rattle.gf301.specs.Polynomial.{Bytes, value}
-use Rattle.gf301.proofs.Exported.{product_comm, product_zero_right, product_one_left}
-use Rattle.gf301.proofs.Exported.{product_cancels, raise_below, sum_zero, power_injective, factor_value, value_below}
-use Rattle.gf301.proofs.Exported.{weigh, weighted, weigh_same, weigh_weighted, value_weigh, length-weighted}
-use Rattle.gf301.proofs.Exported.{bytes_weighted, laid, sums, laid_sums}
-use Rattle.dm_code.specs.Codeword.{IsCodeword, IsNear, differs, differing, distance}
+use Rattle.gf301.proofs.Exported.{product_comm, product_zero_right, product_one_left, product_cancels, raise_below}
+use Rattle.gf301.proofs.Exported.{sum_zero, power_injective, factor_value, value_below, weigh, weighted, weigh_same}
+use Rattle.gf301.proofs.Exported.{weigh_weighted, value_weigh, length-weighted, bytes_weighted, laid, sums, laid_sums}
+use Rattle.dm_code.specs.Codeword.{IsCodeword, IsNear, differing, distance}
 use Rattle.dm_code.specs.Erased.{blank, distance_but, IsNearBut}
 use Rattle.dm_code.proofs.Codewords.{codeword_bytes, codeword_values, codeword_from_values}
-use Rattle.dm_code.proofs.Distance.{codewords_one, differs_apart, differs_le, differs_same, differing_triangle}
+use Rattle.dm_code.proofs.Distance.{codewords_one, differs_apart, differs_le, differs_same, differing_triangle, differs}
 use Rattle.dm_code.proofs.ErrorPlaces.{locator_at}
 use Rattle.dm_code.proofs.CleanWords.{distance_self}
 

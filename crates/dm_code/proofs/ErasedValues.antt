@@ -7,8 +7,8 @@ use Rattle.std.proofs.lemmas.List.{ext_get_or, get_or-replicate, get_or-set_othe
 use Rattle.std.proofs.lemmas.List.{length-replicate}
 use lib.Bits.{xor_self, xor_zero_l, xor_zero_r}
 use Rattle.gf301.specs.Field.{◌⊕◌, ◌⊗◌, raise, power}
-use Rattle.gf301.specs.Polynomial.{Bytes, value, coefficient, convolution, times, values_from}
-use Rattle.gf301.proofs.Exported.{bytes_times, get_or-plus, get_or-values_from, laid_sums, length_plus, nonzeros, plus}
+use Rattle.gf301.specs.Polynomial.{Bytes, value, coefficient, convolution, values_from}
+use Rattle.gf301.proofs.Exported.{bytes_times, get_or-plus, get_or-times, laid_sums, length_plus, nonzeros, plus}
 use Rattle.gf301.proofs.Exported.{product_below, product_cancels, product_comm, product_one_left, product_positive}
 use Rattle.gf301.proofs.Exported.{product_zero_left, product_zero_right, quotient, raise_below, raise_positive, sums}
 use Rattle.gf301.proofs.Exported.{value_below, value_plus, value_weigh, weigh, length_quotient, bytes_cons}
@@ -29,11 +29,10 @@ use Rattle.dm_code.proofs.SyndromeLaws.{syndrome_at}
 -- ---- the locator of some places
 -- Its first coefficient is 1.
 locator_head : (n : ℕ) (q : List ℕ) → coefficient (places_locator n q) 0 ≡ 1
-unfolding places_locator times convolution
+unfolding places_locator convolution
 locator_head n [] = refl
 locator_head n (p ∷ q) =
-    let f = convolution (coefficient (1 ∷ locator_at n p ∷ [])) (coefficient (places_locator n q)) in
-    get_or-values_from f 0 (2 + length (places_locator n q) - 1) 0 (omega (arith, length_locator n q))
+    get_or-times (1 ∷ locator_at n p ∷ []) (places_locator n q) 0 (omega (arith, length_locator n q))
     ∙ ap (λ y. 1 ⊗ y) (locator_head n q) ∙ product_one_left 1 (omega arith)
 
 -- Its coefficients are bytes.

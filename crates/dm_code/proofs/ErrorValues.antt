@@ -3,12 +3,12 @@ use Rattle.std.proofs.Common.{◌≡◌, ℕ, zero, suc, ◌+◌, ◌-◌, ◌<�
 use Rattle.std.proofs.Common.{arith, bit_xor, inl, inr, ◌⊎◌}
 use lib.Bits.{xor_assoc, xor_comm, xor_zero_r}
 use Rattle.gf301.specs.Field.{◌⊕◌, ◌⊗◌, raise, power}
-use Rattle.gf301.specs.Polynomial.{Bytes, value, coefficient, convolution, shift}
+use Rattle.gf301.specs.Polynomial.{Bytes, value, coefficient, convolution}
 use Rattle.gf301.proofs.Exported.{nonzeros, xor_swap, product_zero_left, product_zero_right, product_comm}
 use Rattle.gf301.proofs.Exported.{product_assoc, product_sum_left, product_sum_right, product_cancels, product_positive}
 use Rattle.gf301.proofs.Exported.{product_one_right, product_below, raise_below, raise_positive, weigh, conv_cons}
 use Rattle.gf301.proofs.Exported.{quotient, length_quotient, quotient_more, value_below, value_push, sums, laid}
-use Rattle.gf301.proofs.Exported.{laid_sums, same_functions}
+use Rattle.gf301.proofs.Exported.{laid_sums, same_functions, shift}
 use Rattle.dm_code.proofs.First.{first, length-first, first_push, first_same}
 use Rattle.dm_code.proofs.ErrorPlaces.{locator_at, Vanishes, not_root, quotient_vanishes, quotient_positive}
 

@@ -2,8 +2,8 @@
 use Rattle.std.proofs.Common.{◌≡◌, ℕ, zero, suc, ◌+◌, List, ◌<◌, ◌≤◌, [], ◌∷◌, ◌++◌, length, refl, sym, ap, ◌∙◌, arith}
 use Rattle.std.proofs.Common.{inl, inr}
 use Rattle.std.proofs.lemmas.Bool.{cases_lt}
-use Rattle.gf301.specs.Polynomial.{Bytes, coefficient, shift, values_from}
-use Rattle.gf301.proofs.Exported.{bytes_cons}
+use Rattle.gf301.specs.Polynomial.{Bytes, coefficient, values_from}
+use Rattle.gf301.proofs.Exported.{bytes_cons, shift}
 
 -- The first n coefficients of a series are taken as a list.
 unfoldable pub first : (ℕ → ℕ) → ℕ → List ℕ

@@ -5,8 +5,8 @@ use Rattle.std.proofs.Common.{bit_xor, get_or}
 use lib.Bits.{xor_assoc, xor_comm, xor_zero_l, xor_zero_r}
 use lib.Lanes.{fold_l, zip2}
 use Rattle.gf301.specs.Field.{◌⊕◌, ◌⊗◌}
-use Rattle.gf301.specs.Polynomial.{convolution, shift}
-use Rattle.gf301.proofs.Exported.{product_at_zero, product_zero_at, xor_swap}
+use Rattle.gf301.specs.Polynomial.{convolution}
+use Rattle.gf301.proofs.Exported.{product_at_zero, product_zero_at, xor_swap, shift}
 use Rattle.dm_code.specs.inner.LinearSystem.{dot}
 
 -- ---- the sum of the lanes

@@ -7,7 +7,7 @@ use borrow.Rule.Slice.PartMut.{put_mid}
 use lib.Bits.{xor_zero_r}
 use Rattle.gf301.specs.Field.{◌⊕◌, ◌⊗◌, power}
 use Rattle.gf301.specs.Polynomial.{Bytes, coefficient, convolution, times}
-use Rattle.gf301.proofs.Exported.{conv_cons, conv_nothing, conv_push, conv_same_left, get_or-values_from, length_times}
+use Rattle.gf301.proofs.Exported.{conv_cons, conv_nothing, conv_push, conv_same_left, get_or-times, length_times}
 use Rattle.gf301.proofs.Exported.{product_one_left, product_zero_right}
 use Rattle.dm_code.specs.inner.Lessened.{places_locator}
 use Rattle.dm_code.proofs.EachErased.{length_locator}
@@ -26,10 +26,7 @@ conv_one a s (suc n) =
 -- A coefficient of the product with x - r within it.
 factor_at : (r : ℕ) (l : List ℕ) (i : ℕ) → i < suc (length l) →
     coefficient (times (1 ∷ r ∷ []) l) i ≡ convolution (coefficient (1 ∷ r ∷ [])) (coefficient l) i
-unfolding times
-factor_at r l i h =
-    get_or-values_from (convolution (coefficient (1 ∷ r ∷ [])) (coefficient l)) 0 (2 + length l - 1) i (omega arith)
-    ∙ ap (convolution (coefficient (1 ∷ r ∷ [])) (coefficient l)) (let q : 0 + i ≡ i = omega arith in q)
+factor_at r l i h = get_or-times (1 ∷ r ∷ []) l i (omega arith)
 
 -- Its first coefficient is that of the list.
 factor_first : (r : ℕ) (l : List ℕ) → Bytes l → coefficient (times (1 ∷ r ∷ []) l) 0 ≡ coefficient l 0

@@ -7,8 +7,8 @@ use Rattle.gf301.specs.Field.{◌⊕◌, ◌⊗◌}
 use Rattle.gf301.proofs.Exported.{product_zero_left, product_zero_right, product_one_left, product_one_right}
 use Rattle.gf301.proofs.Exported.{product_comm, product_inverse, inverse_of, sum_zero, sum_below, product_below}
 use Rattle.gf301.proofs.Exported.{conv_sum_left, conv_scale_left, conv_below, conv_comm, conv_swap, conv_same_right}
-use Rattle.gf301.proofs.Exported.{conv_zero}
-use Rattle.gf301.specs.Polynomial.{shift, convolution, coefficient}
+use Rattle.gf301.proofs.Exported.{conv_zero, shift}
+use Rattle.gf301.specs.Polynomial.{convolution, coefficient}
 
 -- The series l and w are a pair for the first k coefficients of s, of length d.
 pub record IsSeriesPair (l w s : ℕ → ℕ) (d k : ℕ) : Type 0 where

@@ -6,10 +6,10 @@ use Rattle.std.proofs.lemmas.List.{ext_get_or, get_or_past}
 use Rattle.std.proofs.lemmas.Nat.{mod_below}
 use lib.Bits.{xor_self}
 use Rattle.gf301.specs.Field.{◌⊕◌, ◌⊗◌}
-use Rattle.gf301.specs.Polynomial.{Bytes, coefficient, convolution, shift}
+use Rattle.gf301.specs.Polynomial.{Bytes, coefficient, convolution}
 use Rattle.gf301.proofs.Exported.{product_zero_left, product_zero_right, product_low_left, product_one_left}
 use Rattle.gf301.proofs.Exported.{product_one_right, product_below, sum_zero, sum_below, conv_swap, conv_same_right}
-use Rattle.gf301.proofs.Exported.{conv_same_left, conv_zero, conv_below}
+use Rattle.gf301.proofs.Exported.{conv_same_left, conv_zero, conv_below, shift}
 use Rattle.dm_code.specs.KeyEquation.{IsWithin, IsPair, IsLeastPair, IsExact}
 use Rattle.dm_code.specs.KeyEquationLaws.{IsMultiple, IsSamePolynomial}
 use Rattle.dm_code.proofs.Degrees.{extent, below_extent, extent_most}

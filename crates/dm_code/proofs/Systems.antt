@@ -2,12 +2,12 @@
 use Rattle.std.proofs.Common.{◌≡◌, ℕ, zero, suc, ◌+◌, ◌-◌, ◌<◌, ◌≤◌, List, length, sym, ap, ◌∙◌, arith, bit_xor}
 use Rattle.std.proofs.lemmas.List.{get_or_past}
 use Rattle.gf301.specs.Field.{◌⊕◌, ◌⊗◌}
-use Rattle.gf301.specs.Polynomial.{coefficient, convolution, shift}
+use Rattle.gf301.specs.Polynomial.{coefficient, convolution}
 use Rattle.dm_code.proofs.Connections.{Connects}
 use Rattle.dm_code.specs.declared.limits.TheConstants.{MOST_ERRORS}
 use Rattle.dm_code.specs.inner.LinearSystem.{dot, row, Solves, Unsolvable}
 use lib.Bits.{xor_zero_r}
-use Rattle.gf301.proofs.Exported.{product_zero_right, conv_comm, conv_same_left}
+use Rattle.gf301.proofs.Exported.{product_zero_right, conv_comm, conv_same_left, shift}
 
 -- The first values of a product at a place above the degree meet coefficients 0, and can be left out.
 conv_skip : (s l : ℕ → ℕ) (o e : ℕ) → ((j : ℕ) → e < j → l j ≡ 0) →

@@ -10,14 +10,11 @@ use Rattle.gf301.specs.Generator.{generator}
 abbrev pub IsCodeword : ℕ → List ℕ → Type 0
 IsCodeword k word = (quotient : List ℕ) × Bytes quotient × (word ≡ times quotient (generator k))
 
--- Two numbers count 0 if they are the same, and 1 otherwise.
-abbrev pub differs : ℕ → ℕ → ℕ
-differs a b = if a == b then 0 else 1
-
 -- A word differs from another at this many of its first n places.
 unfoldable pub differing : List ℕ → List ℕ → ℕ → ℕ
 differing word other zero = 0
-differing word other (suc n) = differing word other n + differs (slice_index word n) (slice_index other n)
+differing word other (suc n) =
+    differing word other n + (if slice_index word n == slice_index other n then 0 else 1)
 
 -- The distance of two words of one length is the number of places at which they differ.
 abbrev pub distance : List ℕ → List ℕ → ℕ

@@ -4,16 +4,12 @@ use Rattle.std.specs.Prelude.{◌≡◌, ◌↔◌, ◌⊎◌, Bool, ℕ, suc, �
 use Rattle.std.specs.Prelude.{List, [], ◌∷◌, length, slice_set}
 use Rattle.dm_code.specs.Codeword.{IsCodeword, IsNear, distance}
 
--- A list says of each place, from this one on, whether it is erased: these are the erased places, in ascending order.
+-- A list says of each place of a word, from this one on, whether it is erased: these are the erased places, in
+-- ascending order. The first place of a word is 0.
 unfoldable pub erased_places_from : ℕ → List Bool → List ℕ
 erased_places_from place [] = []
 erased_places_from place (is_erased ∷ rest) =
     if is_erased then place ∷ erased_places_from (suc place) rest else erased_places_from (suc place) rest
-
--- The erased places of a word, in ascending order, of which a list says, from the first place on, whether they are
--- erased.
-abbrev pub erased_places : List Bool → List ℕ
-erased_places erased = erased_places_from 0 erased
 
 -- The word has 0 at each of these places, and is the same elsewhere.
 unfoldable pub blank : List ℕ → List ℕ → List ℕ

@@ -4,7 +4,7 @@ ghost use Rattle.std.specs.Prelude.{◌≡◌, ◌+◌, ◌*◌, ◌<◌, ◌≤
 ghost use Rattle.std.specs.Prelude.{MatchResult};
 ghost use Rattle.std.specs.List.{All};
 ghost use Rattle.gf301.specs.Polynomial.{coefficient};
-ghost use Rattle.dm_code.specs.Erased.{IsNearBut, distance_but, erased_places};
+ghost use Rattle.dm_code.specs.Erased.{IsNearBut, distance_but, erased_places_from};
 ghost use Rattle.dm_code.specs.inner.Lessened.{AreOddParts, HasPlaces, IsAscending, IsSameBut, places_locator};
 
 use crate::correction::{BeyondLimit, Fixed, copy_of, correct};
@@ -54,11 +54,12 @@ pub fn correct_erased<S: KeySolver>(
     requires long { length word.now ≤ LONGEST_WORD }
     requires same { length erased.now ≡ length word.now }
     ensures near { MatchResult result
-        (λ restored. IsNearBut k word.now (erased_places erased.now) restored.word.items)
-        (λ _. (c : List ℕ) → IsNearBut k word.now (erased_places erased.now) c → ⊥) }
+        (λ restored. IsNearBut k word.now (erased_places_from 0 erased.now) restored.word.items)
+        (λ _. (c : List ℕ) → IsNearBut k word.now (erased_places_from 0 erased.now) c → ⊥) }
     ensures changed { IfOk result (λ restored.
-        restored.changed ≡ distance_but (erased_places erased.now) word.now restored.word.items) }
-    ensures erased { IfOk result (λ restored. restored.erased ≡ length (erased_places erased.now)) }
+        restored.changed ≡ distance_but (erased_places_from 0 erased.now) word.now restored.word.items) }
+    ensures erased { IfOk result (λ restored.
+        restored.erased ≡ length (erased_places_from 0 erased.now)) }
     ensures left { IfOk result
         (λ restored. 2 * restored.changed + restored.erased + restored.left ≡ k) }
 {
@@ -117,7 +118,7 @@ fn correct_around<S: KeySolver>(
 /// Gives the places that are erased, in ascending order.
 fn places_of(erased: &[bool]) -> ArrayVec<u8, LONGEST_WORD>
     requires { length erased.now ≤ LONGEST_WORD }
-    ensures { result.items ≡ erased_places erased.now }
+    ensures { result.items ≡ erased_places_from 0 erased.now }
 {
     let mut places = ArrayVec::new();
     for (place, is_erased) in erased.iter().enumerate() {

@@ -19,10 +19,9 @@ pub use Rattle.dm_layout.specs.symbols.Sizes.{IsSize, SizeEntry, area, block_che
 pub use Rattle.dm_layout.specs.symbols.Sizes.{count_in_block, entry_for, entry_with, mapping_columns, mapping_rows}
 pub use Rattle.dm_layout.specs.symbols.Sizes.{most_block_check, most_blocks, most_cells, most_codewords, most_columns}
 pub use Rattle.dm_layout.specs.symbols.Sizes.{most_data, most_modules, most_rows, size_table, takes}
-pub use Rattle.dm_layout.specs.symbols.SureFaults.{is_sure_fault}
 pub use Rattle.dm_layout.specs.symbols.Symbols.{IsSymbol, SymbolView, is_dark_bit, module_at, rows_by}
 pub use Rattle.dm_layout.specs.symbols.Words.{AreOfSize, IsWords, WordsView, first_words, words_with}
-pub use Rattle.dm_layout.specs.symbols.inner.BorderMasks.{AreBorders, AreRuled, sure_faults_in}
+pub use Rattle.dm_layout.specs.symbols.inner.BorderMasks.{AreBorders, AreRuled, is_sure_fault, sure_faults_in}
 pub use Rattle.dm_layout.specs.symbols.inner.Drawing.{drawn_colour, inner_colour, mapping_line}
 pub use Rattle.dm_layout.specs.symbols.inner.Keeping.{AreKeptIn, kept_symbol}
 pub use Rattle.dm_layout.specs.symbols.inner.Laying.{by_anchors, corner_marks, folded, lowered, moved_in, scattered}
@@ -41,7 +40,7 @@ pub use Rattle.dm_place.proofs.Exported.{some_bit, words_of}
 pub use Rattle.dm_place.specs.Border.{edge_is_dark, fixed_is_dark, is_fixed, is_on_edge, symbol_line}
 pub use Rattle.dm_place.specs.Holding.{HoldsBits, bit_of, digit}
 pub use Rattle.dm_place.specs.Placement.{At, CellsInside, EachCellOnce, IsPlace, cells_of, places_in_order, shapes}
-pub use Rattle.dm_place.specs.Placement.{standard, wrapped_cell}
+pub use Rattle.dm_place.specs.Placement.{wrapped_cell}
 pub use Rattle.dm_place.specs.Sides.{row_with_sides}
 pub use Rattle.dm_place.specs.declared.cells.Place.{Place}
 pub use Rattle.dm_place.specs.declared.shape.Cell.{Cell}

@@ -1,14 +1,14 @@
 -- The shapes of a mapping matrix by fewer tests: the anchors of one sum lie all in even rows or all in odd ones, and a
 -- sum that isn't a multiple of 4 has none.
 use Rattle.std.proofs.lemmas.Bool.Decides.{nat_tests}
-use Rattle.std.proofs.Common.{◌≡◌, ℕ, ◌+◌, ◌-◌, ◌*◌, ◌%◌, ◌<◌, ◌≤◌, Bool, true, false, nat_eq}
-use Rattle.std.proofs.Common.{List, []}
-use Rattle.std.proofs.Common.{◌∷◌, ◌++◌, flat_map, refl, ap, ◌∙◌, arith}
+use Rattle.std.proofs.Common.{◌≡◌, ℕ, ◌+◌, ◌-◌, ◌*◌, ◌%◌, ◌<◌, ◌≤◌, Bool, true, false, nat_eq, List, [], ◌∷◌, ◌++◌}
+use Rattle.std.proofs.Common.{flat_map, refl, ap, ◌∙◌, arith}
 use Rattle.std.specs.List.{range_with_len}
 use Rattle.std.proofs.lemmas.Bool.{and_parts, eqb-true, eqb-false, leb-true, ltb-true}
 use Rattle.dm_place.specs.declared.shape.Shape.{Shape}
-use Rattle.dm_place.specs.Placement.{shapes, shapes_of_sum, corner_before, in_even_row, in_odd_row, shape_at}
-use Rattle.dm_place.specs.Placement.{is_anchor}
+use Rattle.dm_place.specs.declared.shape.Shape.TheVariants.{Standard}
+use Rattle.dm_place.specs.Placement.{shapes, corner_before, in_even_row, in_odd_row, is_anchor}
+use Rattle.dm_place.specs.inner.Walking.{shapes_of_sum}
 
 -- These are the shapes of sum s, where rows are tested only if an anchor of this sum may lie in them.
 abbrev few_of_sum : ℕ → ℕ → ℕ → List Shape
@@ -42,6 +42,10 @@ guarded false xs h = refl
 anchor_parts : (rows columns r c : ℕ) → is_anchor rows columns r c ≡ true →
     (r < rows) × (c < columns) × ((5 * r + c) % 8 ≡ 4)
 anchor_parts rows columns r c h = grind (arith, nat_tests, and_parts, ltb-true, eqb-true)
+
+-- A standard shape stands at each anchor, and none at any other cell.
+abbrev shape_at : ℕ → ℕ → ℕ → ℕ → List Shape
+shape_at rows columns r c = elim (is_anchor rows columns r c) [ true ↦ Standard r c ∷ [] | false ↦ [] ]
 
 -- A cell where 5r + c doesn't leave 4 when divided by 8 has no shape.
 no_shape : (rows columns r c : ℕ) → ((5 * r + c) % 8 ≡ 4 → ⊥) → shape_at rows columns r c ≡ []

@@ -3,7 +3,6 @@ use Rattle.std.specs.Prelude.{◌≡◌, ℕ, ◌+◌, ◌-◌, ◌*◌, ◌/◌
 use Rattle.std.specs.Prelude.{length, map, nat_eq}
 use Rattle.std.specs.List.{All}
 use Rattle.dm_place.specs.declared.shape.Cell.{Cell}
-use Rattle.dm_place.specs.Border.{is_fixed}
 use Rattle.dm_place.specs.Placement.{shapes, IsPlace}
 
 -- The cell at a row and a column of a matrix of so many columns, whose cells are listed row by row, is dark if it is

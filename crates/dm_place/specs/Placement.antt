@@ -34,28 +34,21 @@ wrapped_at_top_and_left rows columns r c up left =
       ]
     ]
 
--- A cell below the matrix is wrapped round the bottom edge, and loses the matrix's rows.
-abbrev pub lowered_cell : ℕ → Cell → Cell
-lowered_cell rows cell = elim (nat_le rows cell.row) [ true ↦ At (cell.row - rows) cell.column | false ↦ cell ]
-
 -- The cell `up` rows above and `left` columns left of row r, column c is wrapped round the top edge, the left one and
--- the bottom one, in this order. Round the bottom edge cells come in matrices of 24 by 36 and 24 by 44 cells alone.
+-- the bottom one, in this order: below the matrix it loses the matrix's rows. Round the bottom edge cells come in
+-- matrices of 24 by 36 and 24 by 44 cells alone.
 abbrev pub wrapped_cell : ℕ → ℕ → ℕ → ℕ → ℕ → ℕ → Cell
-wrapped_cell rows columns r c up left = lowered_cell rows (wrapped_at_top_and_left rows columns r c up left)
+wrapped_cell rows columns r c up left =
+    let cell = wrapped_at_top_and_left rows columns r c up left in
+    elim (nat_le rows cell.row) [ true ↦ At (cell.row - rows) cell.column | false ↦ cell ]
 
--- The standard shape has these eight cells, each given by how far it lies above and left of the anchor, the lower right
--- cell.
-abbrev pub standard_by : (ℕ → ℕ → Cell) → List Cell
-standard_by cell = cell 2 2 ∷ cell 2 1 ∷ cell 1 2 ∷ cell 1 1 ∷ cell 1 0 ∷ cell 0 2 ∷ cell 0 1 ∷ cell 0 0 ∷ []
-
--- The standard shape at row r, column c has its anchor there.
-abbrev pub standard : ℕ → ℕ → ℕ → ℕ → List Cell
-standard rows columns r c = standard_by (wrapped_cell rows columns r c)
-
--- A codeword lies in the eight cells of its shape, which is the standard one or one of four that lie on corners of the
--- matrix.
+-- A codeword lies in the eight cells of its shape. The standard one at row r, column c has its anchor, the lower right
+-- cell, there, and each of its cells is given by how far it lies above and left of the anchor. Four others lie on
+-- corners of the matrix.
 abbrev pub cells_of : ℕ → ℕ → Shape → List Cell
-cells_of rows columns (Standard r c) = standard rows columns r c
+cells_of rows columns (Standard r c) =
+    let cell = wrapped_cell rows columns r c in
+    cell 2 2 ∷ cell 2 1 ∷ cell 1 2 ∷ cell 1 1 ∷ cell 1 0 ∷ cell 0 2 ∷ cell 0 1 ∷ cell 0 0 ∷ []
 cells_of rows columns Corner1 =
     At (rows - 1) 0 ∷ At (rows - 1) 1 ∷ At (rows - 1) 2 ∷ At 0 (columns - 2) ∷ At 0 (columns - 1) ∷ At 1 (columns - 1) ∷
     At 2 (columns - 1) ∷ At 3 (columns - 1) ∷ []
@@ -105,19 +98,21 @@ abbrev pub is_anchor : ℕ → ℕ → ℕ → ℕ → Bool
 is_anchor rows columns r c =
     nat_lt r rows && nat_lt c columns && nat_eq ((5 * r + c) % 8) 4 && not (is_absent rows columns r c)
 
--- A standard shape stands at each anchor, and none at any other cell.
-abbrev pub shape_at : ℕ → ℕ → ℕ → ℕ → List Shape
-shape_at rows columns r c = elim (is_anchor rows columns r c) [ true ↦ Standard r c ∷ [] | false ↦ [] ]
-
 -- This is the standard shape of sum s = r + c whose anchor lies in column c and in an even row, if there is one.
 abbrev pub in_even_row : ℕ → ℕ → ℕ → ℕ → List Shape
 in_even_row rows columns s c =
-    elim (nat_le c s && nat_eq ((s - c) % 2) 0) [ true ↦ shape_at rows columns (s - c) c | false ↦ [] ]
+    elim (nat_le c s && nat_eq ((s - c) % 2) 0) [
+      | true ↦ elim (is_anchor rows columns (s - c) c) [ true ↦ Standard (s - c) c ∷ [] | false ↦ [] ]
+      | false ↦ []
+    ]
 
 -- This is the standard shape of sum s = r + c whose anchor lies in row r, if that row is odd and there is one.
 abbrev pub in_odd_row : ℕ → ℕ → ℕ → ℕ → List Shape
 in_odd_row rows columns s r =
-    elim (nat_le r s && nat_eq (r % 2) 1) [ true ↦ shape_at rows columns r (s - r) | false ↦ [] ]
+    elim (nat_le r s && nat_eq (r % 2) 1) [
+      | true ↦ elim (is_anchor rows columns r (s - r)) [ true ↦ Standard r (s - r) ∷ [] | false ↦ [] ]
+      | false ↦ []
+    ]
 
 -- A corner comes just before the anchors of sum s by what rows and columns leave when divided by 8: corner 1 at 4 and 4
 -- where s is the number of rows, corner 2 at 6 and 6 and corner 3 at 6 and 4 where s is rows - 2, corner 4 at 6 and 0
@@ -138,16 +133,13 @@ corner_before rows columns s =
       ]
     ]
 
--- The shapes of sum s are the corner that comes before its anchors, if any, then those with anchors in even rows by
--- rising column, and then those with anchors in odd rows by rising row.
-abbrev pub shapes_of_sum : ℕ → ℕ → ℕ → List Shape
-shapes_of_sum rows columns s =
-    corner_before rows columns s ++ flat_map (in_even_row rows columns s) (range_with_len 0 columns)
-    ++ flat_map (in_odd_row rows columns s) (range_with_len 0 rows)
-
--- The shapes of a mapping matrix are ordered by rising sum of row and column; each takes the next codeword.
+-- The shapes of a mapping matrix are ordered by rising sum of row and column; each takes the next codeword. Those of
+-- one sum are the corner that comes before its anchors, if any, then those with anchors in even rows by rising column,
+-- and then those with anchors in odd rows by rising row.
 unfoldable pub shapes : ℕ → ℕ → List Shape
-shapes rows columns = flat_map (shapes_of_sum rows columns) (range_with_len 0 (rows + columns - 1))
+shapes rows columns =
+    flat_map (λ s. corner_before rows columns s ++ flat_map (in_even_row rows columns s) (range_with_len 0 columns)
+    ++ flat_map (in_odd_row rows columns s) (range_with_len 0 rows)) (range_with_len 0 (rows + columns - 1))
 
 -- ---- places
 

@@ -1,7 +1,7 @@
 //! The shapes in which codewords lie in the mapping matrix: ISO/IEC 16022, module placement.
 
 ghost use Rattle.std.specs.Prelude.{◌≡◌, ◌+◌, ◌%◌, ◌<◌, ◌≤◌};
-ghost use Rattle.dm_place.specs.Placement.{At, AnchorInside, cells_of, lowered_cell, wrapped_cell};
+ghost use Rattle.dm_place.specs.Placement.{At, AnchorInside, cells_of, wrapped_cell};
 ghost use Rattle.dm_place.specs.Placement.{wrapped_at_top_and_left as wrapped_at_top_and_left_by};
 
 /// A cell of the mapping matrix; row and column count from 0, from the top and from the left.
@@ -27,17 +27,6 @@ fn at(row: u16, column: u16) -> Cell
     ensures { result ≡ At row column }
 {
     Cell { row, column }
-}
-
-/// Gives a cell, wrapped round the bottom edge of a mapping matrix of so many rows.
-fn lowered(rows: u16, cell: Cell) -> Cell
-    ensures { result ≡ lowered_cell rows cell }
-{
-    if rows <= cell.row {
-        at(cell.row - rows, cell.column)
-    } else {
-        cell
-    }
 }
 
 /// Gives the cell `up` rows above and `left` columns left of a cell of the mapping matrix, wrapped round its top edge
@@ -90,10 +79,12 @@ fn wrap(rows: u16, columns: u16, row: u16, column: u16, up: u16, left: u16) -> C
     requires left { left ≤ 2 }
     ensures value { result ≡ wrapped_cell rows columns row column up left }
 {
-    lowered(
-        rows,
-        wrapped_at_top_and_left(rows, columns, row, column, up, left),
-    )
+    let cell = wrapped_at_top_and_left(rows, columns, row, column, up, left);
+    if rows <= cell.row {
+        at(cell.row - rows, cell.column)
+    } else {
+        cell
+    }
 }
 
 impl Shape {

@@ -2,10 +2,10 @@
 use Rattle.dm_symbol.proofs.Names.{◌≡◌, ℕ, ◌+◌, ◌-◌, ◌*◌, ◌/◌, ◌%◌, ◌<◌, false, nat_eq, List, length, get_or, map}
 use Rattle.dm_symbol.proofs.Names.{Option, Some, None, inl, inr, refl, sym, ap, subst, ◌∙◌, arith, cases_lt, cond_above}
 use Rattle.dm_symbol.proofs.Names.{cond_below, ext_get_or, get_or-map-range_with_len, length-map-range_with_len, Extent}
-use Rattle.dm_symbol.proofs.Names.{Usual, Wide, erased_places, SizeEntry, IsSize, entry_of, codeword_count, SymbolView}
-use Rattle.dm_symbol.proofs.Names.{WordsView, places_of_block, Holds, Dealing, Standard, Restarted, is_erased}
-use Rattle.dm_symbol.proofs.Names.{IsDealtTwoWays, restarted_place, dealt, erased_by, AreOfSize, is_mark, marked_in}
-use Rattle.dm_symbol.proofs.Names.{turned, turned_place}
+use Rattle.dm_symbol.proofs.Names.{Usual, Wide, erased_places_from, SizeEntry, IsSize, entry_of, codeword_count}
+use Rattle.dm_symbol.proofs.Names.{SymbolView, WordsView, places_of_block, Holds, Dealing, Standard, Restarted}
+use Rattle.dm_symbol.proofs.Names.{is_erased, IsDealtTwoWays, restarted_place, dealt, erased_by, AreOfSize, is_mark}
+use Rattle.dm_symbol.proofs.Names.{marked_in, turned, turned_place}
 use Rattle.dm_layout.specs.symbols.Sizes.{size_table, entry_with}
 use Rattle.dm_symbol.proofs.SymbolDoubt.{erased_by_held, erased_by_none, erased_nowhere, erased_where_marked, map_twice}
 use Rattle.dm_symbol.proofs.SymbolDoubt.{same_filtered}
@@ -148,7 +148,7 @@ erased_by_turned size doubtful held marks b two of_size h turn =
     ∙ sym (erased_where_marked size doubtful held of_size h (place_of 1558 j)
     (omega (arith, inside_1558 j hj, many)))
     ∙ ap (is_erased size (Some doubtful)) (sym place) in
-    ap erased_places (map_twice is_mark at_mark (places (length marks))
+    ap (erased_places_from 0) (map_twice is_mark at_mark (places (length marks))
     ∙ ap (λ n. map (λ j. is_mark (get_or marks j 0)) (places n)) count
     ∙ same_filtered (λ j. is_mark (get_or marks j 0))
     (λ j. is_erased size (Some doubtful) (restarted_place size j))

@@ -2,9 +2,9 @@
 -- first block.
 use Rattle.dm_symbol.proofs.Names.{◌≡◌, ℕ, zero, suc, ◌+◌, ◌%◌, ◌<◌, List, ◌++◌, length, get_or, map, take, nat_eq}
 use Rattle.dm_symbol.proofs.Names.{Option, refl, sym, ap, subst, ◌∙◌, arith, get_or-take, length-take-le}
-use Rattle.dm_symbol.proofs.Names.{get_or-map-range_with_len, length-map-range_with_len, erased_places, SizeEntry}
+use Rattle.dm_symbol.proofs.Names.{get_or-map-range_with_len, length-map-range_with_len, erased_places_from, SizeEntry}
 use Rattle.dm_symbol.proofs.Names.{IsSize, codeword_count, SymbolView, places_of_block, block_of, Restarted, is_erased}
-use Rattle.dm_symbol.proofs.Names.{IsDealtTwoWays, restarted_place, dealt, erased_by, AreOfSize, block_in, first_data}
+use Rattle.dm_symbol.proofs.Names.{IsDealtTwoWays, restarted_place, dealt, erased_by, AreOfSize, first_data}
 use Rattle.std.proofs.Common.{drop}
 use Rattle.std.proofs.lemmas.List.{map-append, get_or-drop, length-drop}
 use Rattle.std.proofs.lemmas.Simd.{map-map}
@@ -70,26 +70,27 @@ module _ (words : List ℕ) (long : length words ≡ 2178) (b : ℕ) (hb : b < 1
 
 -- A block is its data codewords and its check codewords, each dealt anew.
 pub dealt_anew : (size : SizeEntry) (words : List ℕ) (b : ℕ) → IsDealtTwoWays size → AreOfSize size words
-    → b < size.blocks → block_in size (dealt Restarted size words) b
+    → b < size.blocks → block_of size.blocks b (dealt Restarted size words)
     ≡ block_of size.blocks b (first_data size words) ++ block_of size.blocks b (drop size.data_count words)
 dealt_anew size words b two h hb =
     let e : largest ≡ size = sym (size_is size h.size two) in
     let long : length words ≡ 2178 = h.count ∙ ap codeword_count (sym e) in
     let few : b < 10 = omega (arith, hb, ap (λ (s : SizeEntry). s.blocks) e) in
-    subst (λ s. block_in s (dealt Restarted s words) b
+    subst (λ s. block_of s.blocks b (dealt Restarted s words)
     ≡ block_of s.blocks b (first_data s words) ++ block_of s.blocks b (drop s.data_count words)) e
     (block_anew words long b few)
 
 -- Its erased places are those of these places whose codewords are erased.
 pub erased_anew : (size : SizeEntry) (doubtful : Option SymbolView) (b : ℕ) → IsDealtTwoWays size → IsSize size
     → b < size.blocks → erased_by Restarted size doubtful b
-    ≡ erased_places (map (is_erased size doubtful) (places_of_block size.blocks b size.data_count
+    ≡ erased_places_from 0 (map (is_erased size doubtful) (places_of_block size.blocks b size.data_count
     ++ map (λ i. size.data_count + i) (places_of_block size.blocks b size.check_count)))
 erased_anew size doubtful b two h hb =
     let e : largest ≡ size = sym (size_is size h two) in
     let few : b < 10 = omega (arith, hb, ap (λ (s : SizeEntry). s.blocks) e) in
     subst (λ s. erased_by Restarted s doubtful b
-    ≡ erased_places (map (is_erased s doubtful) (places_of_block s.blocks b s.data_count
+    ≡ erased_places_from 0 (map (is_erased s doubtful) (places_of_block s.blocks b s.data_count
     ++ map (λ i. s.data_count + i) (places_of_block s.blocks b s.check_count)))) e
-    (ap erased_places (sym (map-map (is_erased largest doubtful) (restarted_place largest) (places_of_block 10 b 2178))
+    (ap (erased_places_from 0) (sym (map-map (is_erased largest doubtful) (restarted_place largest)
+    (places_of_block 10 b 2178))
     ∙ ap (map (is_erased largest doubtful)) (same_places b few)))

@@ -1,13 +1,12 @@
 -- Grids are read as their symbols are in the usual extent, with no module doubtful.
 use Rattle.dm_symbol.proofs.Names.{◌≡◌, ◌↔◌, ℕ, ◌+◌, ◌-◌, ◌*◌, ◌<◌, ◌≤◌, Bool, List, [], ◌∷◌, length, map, Option, None}
-use Rattle.dm_symbol.proofs.Names.{Result, Ok, Err, refl, sym, ap, subst, ◌∙◌, arith, range_with_len, length-take}
-use Rattle.dm_symbol.proofs.Names.{Usual, Item, ContentView, as_content, IsMessage, usual_plain, SizeRow}
+use Rattle.dm_symbol.proofs.Names.{erased_by, Result, Ok, Err, refl, sym, ap, subst, ◌∙◌, arith, range_with_len}
+use Rattle.dm_symbol.proofs.Names.{length-take, Usual, Item, ContentView, as_content, IsMessage, usual_plain, SizeRow}
 use Rattle.dm_symbol.proofs.Names.{most_grid_data, symbol_size, GridView, IsGrid, symbol_modules, border_fault_count}
 use Rattle.dm_symbol.proofs.Names.{SizeEntry, block_check, SymbolView, row_facts, same_row, Reading, ReadFault}
-use Rattle.dm_symbol.proofs.Names.{ContentReadFault, Standard, Restarted, BlockReading, erased_in, sure_fault_count}
-use Rattle.dm_symbol.proofs.Names.{IsDealtTwoWays, Reads, ReadResult, IsRead, reading_of, block_in, first_data}
-use Rattle.dm_symbol.proofs.Names.{block_reading, ContentReadingView, ReadsContent, ContentReadResult}
-use Rattle.dm_symbol.proofs.Names.{content_reading_of}
+use Rattle.dm_symbol.proofs.Names.{ContentReadFault, Standard, Restarted, BlockReading, sure_fault_count}
+use Rattle.dm_symbol.proofs.Names.{IsDealtTwoWays, Reads, ReadResult, IsRead, reading_of, first_data, block_reading}
+use Rattle.dm_symbol.proofs.Names.{ContentReadingView, ReadsContent, ContentReadResult, content_reading_of, block_of}
 use Rattle.dm_words.proofs.Exported.{spelled_is_few, usual_word}
 use Rattle.dm_layout.proofs.Exported.{is_modules, is_size, side_fits}
 use Rattle.dm_symbol.specs.Reading.{IsGridResult, IsReadAs, content_fault}
@@ -273,14 +272,16 @@ made_of_told modules limit reading one (ContentReadResult.content Restarted word
 made_of_told modules limit reading one (ContentReadResult.content Standard words codewords l n few h said is e) =
     let k = block_check modules.size in
     let faults = sure_fault_count modules None in
-    let read : List BlockReading = map (λ b. block_reading k (erased_in modules.size None b)
-    (block_in modules.size words b) (block_in modules.size codewords b)) (range_with_len 0 modules.size.blocks) in
+    let read : List BlockReading = map (λ b. block_reading k (erased_by Standard modules.size None b)
+    (block_of modules.size.blocks b words) (block_of modules.size.blocks b codewords))
+    (range_with_len 0 modules.size.blocks) in
     let same : reading ≡ content_reading_of l n Standard read faults = cc in
     let all : map (none_erased k) (map (λ (b : BlockReading). b.corrected) read) ≡ read = all_made k
-    (λ b. block_reading k (erased_in modules.size None b) (block_in modules.size words b)
-    (block_in modules.size codewords b))
-    (λ b. none_erased_in k (erased_in modules.size None b) (block_in modules.size words b)
-    (block_in modules.size codewords b) (erased_by_none modules.size b)) (range_with_len 0 modules.size.blocks) in
+    (λ b. block_reading k (erased_by Standard modules.size None b) (block_of modules.size.blocks b words)
+    (block_of modules.size.blocks b codewords))
+    (λ b. none_erased_in k (erased_by Standard modules.size None b) (block_of modules.size.blocks b words)
+    (block_of modules.size.blocks b codewords) (erased_by_none modules.size b))
+    (range_with_len 0 modules.size.blocks) in
     subst (λ r. made_of k r ≡ r) (sym same)
     (ap (λ rs. content_reading_of (as_content l.items) n Standard rs faults) all
     ∙ ap (λ x. content_reading_of x n Standard read faults)

@@ -3,9 +3,8 @@ use Rattle.dm_symbol.proofs.Names.{◌≡◌, ℕ, zero, suc, ◌+◌, ◌*◌, 
 use Rattle.dm_symbol.proofs.Names.{get_or, map, Option, Some, None, refl, sym, ap, subst, ◌∙◌, arith, range_with_len}
 use Rattle.dm_symbol.proofs.Names.{place, Extent, Wide, SizeEntry, mapping_rows, mapping_columns, codeword_count}
 use Rattle.dm_symbol.proofs.Names.{SymbolView, is_fault, places_of_block, Dealing, Standard, Restarted}
-use Rattle.dm_symbol.proofs.Names.{SymbolInspectionIn, is_doubtful_bit, is_erased, erased_in, is_sure_fault}
-use Rattle.dm_symbol.proofs.Names.{sure_fault_count, dealt, erased_by, restarted_place, AreRestored, AreLost}
-use Rattle.dm_symbol.proofs.Names.{IsFirstLost, readings_by, IsSymbolInspection, AreLight}
+use Rattle.dm_symbol.proofs.Names.{SymbolInspectionIn, is_erased, sure_fault_count, dealt, erased_by, restarted_place}
+use Rattle.dm_symbol.proofs.Names.{AreRestored, AreLost, IsFirstLost, readings_by, IsSymbolInspection, AreLight}
 use Rattle.dm_layout.specs.symbols.Symbols.{rows_of}
 use Rattle.dm_symbol.specs.Doubt.{is_doubtful}
 use Rattle.dm_symbol.proofs.SymbolDoubt.{same_counts, erased_nowhere, same_any}
@@ -18,7 +17,9 @@ same_sure_faults : (modules : SymbolView) (p q : Option SymbolView)
     → ((row column : ℕ) → is_doubtful p row column ≡ is_doubtful q row column)
     → sure_fault_count modules p ≡ sure_fault_count modules q
 same_sure_faults modules p q same =
-    same_counts (is_sure_fault modules p) (is_sure_fault modules q) modules.size.columns 0 modules.size.rows
+    same_counts (λ row column. is_fault modules row column && not (is_doubtful p row column))
+    (λ row column. is_fault modules row column && not (is_doubtful q row column)) modules.size.columns 0
+    modules.size.rows
     (λ row column. ap (λ x. is_fault modules row column && not x) (same row column))
 
 -- A list of colours of which none is dark gives light at each place, also past its end.
@@ -58,10 +59,11 @@ light_rows rows columns list h row column =
 module _ (modules : SymbolView) (p q : Option SymbolView)
     (same : (d : Dealing) (b : ℕ) → b < modules.size.blocks
     → erased_by d modules.size p b ≡ erased_by d modules.size q b) where
-  first_moves : (u : List ℕ) (b : ℕ) → IsFirstLost modules.size (erased_in modules.size p) u b
-      → IsFirstLost modules.size (erased_in modules.size q) u b
+  first_moves : (u : List ℕ) (b : ℕ) → IsFirstLost modules.size (erased_by Standard modules.size p) u b
+      → IsFirstLost modules.size (erased_by Standard modules.size q) u b
   first_moves u b h =
-      lost_moves modules.size (erased_in modules.size p) (erased_in modules.size q) (same Standard) u b h
+      lost_moves modules.size (erased_by Standard modules.size p) (erased_by Standard modules.size q) (same Standard)
+      u b h
 
   pub restored_moves : (d : Dealing) (extent : Extent) (u c : List ℕ) → AreRestored extent modules p d u c
       → AreRestored extent modules q d u c
@@ -97,7 +99,7 @@ module _ (doubtful : SymbolView) (light : AreLight doubtful) where
         symbol_line size.region_rows (place (mapping_rows size) (mapping_columns size) word bit).row,
         symbol_line size.region_columns (place (mapping_rows size) (mapping_columns size) word bit).column,
       ) in
-      same_any (is_doubtful_bit size (Some doubtful) word) (λ bit. false) 1 8
+      same_any (λ bit. is_doubtful (Some doubtful) (at bit).0 (at bit).1) (λ bit. false) 1 8
       (λ bit low high. light (at bit).0 (at bit).1)
 
   -- So no place of a block is, by either dealing.

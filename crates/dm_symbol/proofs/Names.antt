@@ -1,7 +1,7 @@
 -- Where the names come from that several proofs of this crate use: std, the crates below, and the definitions.
 pub use Rattle.dm_code.proofs.Exported.{codeword_bytes, differs_le, differs_same, near_but_none, near_none_but}
 pub use Rattle.dm_code.specs.Codeword.{IsCodeword, IsNear, distance}
-pub use Rattle.dm_code.specs.Erased.{IsNearBut, distance_but, erased_places}
+pub use Rattle.dm_code.specs.Erased.{IsNearBut, distance_but, erased_places_from}
 pub use Rattle.dm_layout.proofs.Exported.{row_facts, same_row}
 pub use Rattle.dm_layout.proofs.symbols.Exported.{at_found, blocks_make_words, length_of_block, same_data_by_blocks}
 pub use Rattle.dm_layout.proofs.symbols.Exported.{size_facts, word_of_block}
@@ -21,19 +21,18 @@ pub use Rattle.dm_place.specs.Placement.{place}
 pub use Rattle.dm_symbol.specs.ContentNormal.{NormalContentResult}
 pub use Rattle.dm_symbol.specs.ContentReading.{ContentReadResult, ContentReadingView, ReadsContent, content_reading_of}
 pub use Rattle.dm_symbol.specs.Dealings.{IsDealtTwoWays, dealt, erased_by, restarted_place}
-pub use Rattle.dm_symbol.specs.Doubt.{erased_in, is_doubtful_bit, is_erased, is_sure_fault, sure_fault_count}
+pub use Rattle.dm_symbol.specs.Doubt.{is_erased, sure_fault_count}
 pub use Rattle.dm_symbol.specs.NormalContent.{IsContentWritten, IsContentWrittenIn, IsNormalOfContent}
 pub use Rattle.dm_symbol.specs.NormalGrid.{IsNormalGrid}
 pub use Rattle.dm_symbol.specs.NormalOutcomes.{IsNormalGiven, IsNormalOrFault}
 pub use Rattle.dm_symbol.specs.Reading.{IsRead, ReadResult, Reads, reading_of}
 pub use Rattle.dm_symbol.specs.Restored.{IsRestored}
 pub use Rattle.dm_symbol.specs.SmallestContentSymbol.{IsSmallestContentWritten}
-pub use Rattle.dm_symbol.specs.SymbolBlocks.{AreBlocksNear, AreCodewordsOf, AreOfSize, HasNearBut, block_in}
-pub use Rattle.dm_symbol.specs.SymbolBlocks.{first_data, words_with}
+pub use Rattle.dm_symbol.specs.SymbolBlocks.{AreCodewordsOf, AreOfSize, first_data, words_with}
 pub use Rattle.dm_symbol.specs.SymbolInspection.{IsSymbolInspection}
 pub use Rattle.dm_symbol.specs.SymbolLaws.{AreLight, nothing_wrong}
 pub use Rattle.dm_symbol.specs.SymbolReading.{AreBlocksMended, AreLost, AreRestored, AreRestoredBy, IsBlockRestored}
-pub use Rattle.dm_symbol.specs.SymbolReading.{IsFirstLost, block_reading, block_readings, readings_by}
+pub use Rattle.dm_symbol.specs.SymbolReading.{IsFirstLost, block_reading, readings_by}
 pub use Rattle.dm_symbol.specs.WrittenContent.{AreChosen, IsWrittenAs}
 pub use Rattle.dm_symbol.specs.WrittenWords.{FitChoice}
 pub use Rattle.dm_symbol.specs.declared.contents.ContentNormalFault.{ContentNormalFault}
@@ -48,7 +47,7 @@ pub use Rattle.dm_symbol.specs.declared.symbol.dealing.Dealing.TheVariants.{Rest
 pub use Rattle.dm_symbol.specs.declared.symbol.inspection.SymbolInspectionIn.{SymbolInspectionIn}
 pub use Rattle.dm_symbol.specs.declared.symbol.reading.BlockReading.{BlockReading}
 pub use Rattle.dm_symbol.specs.inner.Marks.{is_mark, marked_in}
-pub use Rattle.dm_symbol.specs.inner.Restoring.{AreHeldBy, IsRestarted}
+pub use Rattle.dm_symbol.specs.inner.Restoring.{AreBlocksNear, AreHeldBy, IsRestarted, block_readings}
 pub use Rattle.dm_symbol.specs.inner.Showing.{IsMended}
 pub use Rattle.dm_symbol.specs.inner.Turns.{turned, turned_place}
 pub use Rattle.dm_words.proofs.Exported.{identifier_is_there, said_is_one, said_wide, usual_plain}

@@ -1,10 +1,10 @@
 -- The codewords of a symbol of any size, from what was lifted and restored.
 use Rattle.dm_symbol.proofs.Names.{◌≡◌, ℕ, ◌≤◌, List, length, Option, refl, ap, subst, ◌∙◌, range_with_len, length-map}
 use Rattle.dm_symbol.proofs.Names.{Extent, Wide, SizeEntry, block_check, SymbolView, WordsView, data_of, Holds, Dealing}
-use Rattle.dm_symbol.proofs.Names.{Standard, Restarted, BlockReading, Block, sure_fault_count, erased_in}
-use Rattle.dm_symbol.proofs.Names.{IsDealtTwoWays, dealt, erased_by, words_with, AreOfSize, AreBlocksNear, AreHeldBy}
-use Rattle.dm_symbol.proofs.Names.{block_in, first_data, AreRestoredBy, IsFirstLost, block_reading, block_readings}
-use Rattle.dm_symbol.proofs.Names.{IsRestored, IsRestarted, ContentReadResult, Err}
+use Rattle.dm_symbol.proofs.Names.{Standard, Restarted, BlockReading, Block, sure_fault_count, IsDealtTwoWays, dealt}
+use Rattle.dm_symbol.proofs.Names.{erased_by, words_with, AreOfSize, AreBlocksNear, AreHeldBy, first_data}
+use Rattle.dm_symbol.proofs.Names.{AreRestoredBy, IsFirstLost, block_reading, block_readings, IsRestored, IsRestarted}
+use Rattle.dm_symbol.proofs.Names.{ContentReadResult, Err, block_of}
 use Rattle.std.proofs.lemmas.List.FromFn.{length-range_with_len}
 use Rattle.dm_symbol.proofs.SymbolBelow.{held_is_one}
 
@@ -18,7 +18,7 @@ pub readings_count : (size : SizeEntry) (erased : ℕ → List ℕ) (u v : List 
     → length (block_readings size erased u v) ≡ size.blocks
 readings_count size erased u v =
     length-map (range_with_len 0 size.blocks)
-    (λ b. block_reading (block_check size) (erased b) (block_in size u b) (block_in size v b))
+    (λ b. block_reading (block_check size) (erased b) (block_of size.blocks b u) (block_of size.blocks b v))
     ∙ length-range_with_len 0 size.blocks
 
 module _ (extent : Extent) (modules : SymbolView) (doubtful : Option SymbolView) (limit : ℕ) where
@@ -29,7 +29,7 @@ module _ (extent : Extent) (modules : SymbolView) (doubtful : Option SymbolView)
   module _ (held : List ℕ) (are_held : AreHeldBy modules held) (few : faults ≤ limit) where
     -- Where a block can't be restored, and the other dealing restores nothing where it is tried, the symbol is lost by
     -- the first such block.
-    pub is_lost : (b : ℕ) → IsFirstLost modules.size (erased_in modules.size doubtful) held b
+    pub is_lost : (b : ℕ) → IsFirstLost modules.size (erased_by Standard modules.size doubtful) held b
         → (extent ≡ Wide → IsDealtTwoWays modules.size → (held codewords : List ℕ)
         → AreRestoredBy Restarted modules doubtful held codewords → ⊥)
         → ContentReadResult extent modules doubtful limit (Err (Block b))
@@ -43,8 +43,8 @@ module _ (extent : Extent) (modules : SymbolView) (doubtful : Option SymbolView)
     module _ (codewords : List ℕ) (blocks : List BlockReading) (count : ℕ) (border : count ≡ faults) where
       -- Words that modules hold are restored to those whose blocks are near to theirs.
       pub is_restored : AreOfSize modules.size codewords
-          → AreBlocksNear modules.size (erased_in modules.size doubtful) held codewords
-          → blocks ≡ block_readings modules.size (erased_in modules.size doubtful) held codewords
+          → AreBlocksNear modules.size (erased_by Standard modules.size doubtful) held codewords
+          → blocks ≡ block_readings modules.size (erased_by Standard modules.size doubtful) held codewords
           → IsRestored extent modules doubtful limit (words_with modules.size codewords) Standard blocks count
       is_restored of_size near said = record {
         few = few;
@@ -59,7 +59,7 @@ module _ (extent : Extent) (modules : SymbolView) (doubtful : Option SymbolView)
       }
 
       -- Where a block is lost in the extent `Wide`, they are restored to what the other dealing gives.
-      pub is_restored_otherwise : (b : ℕ) → IsFirstLost modules.size (erased_in modules.size doubtful) held b
+      pub is_restored_otherwise : (b : ℕ) → IsFirstLost modules.size (erased_by Standard modules.size doubtful) held b
           → extent ≡ Wide → IsRestarted modules doubtful codewords blocks
           → IsRestored extent modules doubtful limit (words_with modules.size codewords) Restarted blocks count
       is_restored_otherwise b first wide r =
@@ -74,7 +74,7 @@ module _ (extent : Extent) (modules : SymbolView) (doubtful : Option SymbolView)
                 wide,
                 r.two_ways,
                 b,
-                subst (λ u. IsFirstLost modules.size (erased_in modules.size doubtful) u b) same first,
+                subst (λ u. IsFirstLost modules.size (erased_by Standard modules.size doubtful) u b) same first,
               );
               by = r.by;
             };

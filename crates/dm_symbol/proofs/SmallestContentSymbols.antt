@@ -1,7 +1,7 @@
 -- The symbol of the smallest data codewords of a content is read as it, and no smaller one is.
 use Rattle.dm_symbol.proofs.Names.{◌≡◌, ℕ, List, None, Ok, Err, sym, subst, ap, arith, ◌∙◌, length, length-take-le}
-use Rattle.dm_symbol.proofs.Names.{Extent, TooLong, ContentView, identifier_is_there, said_wide, SizeChoice, SizeEntry}
-use Rattle.dm_symbol.proofs.Names.{SymbolView, WordsView, IsLaid, Standard, erased_in, words_with, AreOfSize}
+use Rattle.dm_symbol.proofs.Names.{erased_by, Extent, TooLong, ContentView, identifier_is_there, said_wide, SizeChoice}
+use Rattle.dm_symbol.proofs.Names.{SizeEntry, SymbolView, WordsView, IsLaid, Standard, words_with, AreOfSize}
 use Rattle.dm_symbol.proofs.Names.{AreCodewordsOf, first_data, block_readings, ContentReadResult, content_reading_of}
 use Rattle.dm_symbol.proofs.Names.{IsSmallestContentWritten}
 use Rattle.dm_symbol.specs.SmallestContentSymbol.{IsSmallestContentSymbol, NoneSays, IsContentReadWithNothingWrong}
@@ -40,7 +40,7 @@ read_clean extent choice l g n =
           (laid_restored g n.words n.laid n.checked extent) n.smallest.says number.1
           (ap (λ blocks. Ok (content_reading_of l number.0 Standard blocks 0)) (sym (nothing_is_wrong g.size n.words))
           ∙ ap (λ faults. Ok (content_reading_of l number.0 Standard
-          (block_readings g.size (erased_in g.size None) n.words n.words) faults)) (sym clean)),
+          (block_readings g.size (erased_by Standard g.size None) n.words n.words) faults)) (sym clean)),
     )
 
 -- The modules in which the completed codewords are laid are the smallest symbol of the content.

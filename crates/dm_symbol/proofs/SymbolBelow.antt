@@ -2,9 +2,8 @@
 use Rattle.dm_symbol.proofs.Names.{◌≡◌, ℕ, ◌+◌, ◌*◌, ◌<◌, ◌≤◌, List, [], length, get_or, refl, ap, ◌∙◌, arith}
 use Rattle.dm_symbol.proofs.Names.{ext_get_or, length-take, length-take-le, distance, distance_but, SizeEntry, IsSize}
 use Rattle.dm_symbol.proofs.Names.{codeword_count, block_data, block_check, block_length, SymbolView, WordsView}
-use Rattle.dm_symbol.proofs.Names.{data_of, size_facts, words_with, AreOfSize, block_in, length_of_block}
-use Rattle.dm_symbol.proofs.Names.{word_of_block, Holds}
-use Rattle.dm_symbol.proofs.Names.{◌-◌, ◌++◌, take, sym, replicate, first_words, take-append_seam}
+use Rattle.dm_symbol.proofs.Names.{data_of, size_facts, words_with, AreOfSize, length_of_block, word_of_block, Holds}
+use Rattle.dm_symbol.proofs.Names.{◌-◌, ◌++◌, take, sym, replicate, first_words, take-append_seam, block_of}
 use Rattle.std.proofs.Common.{drop}
 use Rattle.std.proofs.lemmas.List.{append-nil, drop_all, length-drop, length-replicate}
 use borrow.Rule.Slice.PartMut.{put_mid}
@@ -59,12 +58,12 @@ only_length size b one hb =
 
 -- The only block of a symbol is all of its codewords.
 pub only_block : (size : SizeEntry) (words : List ℕ) → AreOfSize size words → size.blocks ≡ 1 → (b : ℕ)
-    → b < size.blocks → block_in size words b ≡ words
+    → b < size.blocks → block_of size.blocks b words ≡ words
 only_block size words h one b hb =
     let whole : block_length size b ≡ codeword_count size = only_length size b one hb in
-    let long : length (block_in size words b) ≡ length words =
+    let long : length (block_of size.blocks b words) ≡ length words =
     omega (arith, length_of_block (words_with size words) b h hb, whole, h.count) in
-    ext_get_or 0 (block_in size words b) words long (λ i hi.
+    ext_get_or 0 (block_of size.blocks b words) words long (λ i hi.
     let here : i * size.blocks + b ≡ i = omega (arith, ap (λ n. i * n) one, one, hb) in
     word_of_block (words_with size words) b i h hb (omega (arith, hi, long, whole, h.count))
     ∙ ap (λ j. get_or words j 0) here)

@@ -5,7 +5,7 @@ use Rattle.dm_symbol.proofs.Names.{nat_eq, [], ◌∷◌, find, All, AllByRecurs
 use Rattle.dm_symbol.proofs.Names.{length-append, length-take-le, All-from_get_or, All-take, take-append_seam}
 use Rattle.dm_symbol.proofs.Names.{IsCodeword, SizeChoice, SizeEntry, IsSize, entry_for, block_data, block_check}
 use Rattle.dm_symbol.proofs.Names.{block_length, at_found, blocks_make_words, same_data_by_blocks, words_with}
-use Rattle.dm_symbol.proofs.Names.{AreOfSize, AreCodewordsOf, block_in, first_data}
+use Rattle.dm_symbol.proofs.Names.{AreOfSize, AreCodewordsOf, first_data, block_of}
 use Rattle.dm_code.proofs.Exported.{checks_are_there}
 use Rattle.std.specs.List.{list_all}
 use Rattle.std.proofs.lemmas.List.{get_or-replicate, length-replicate}
@@ -80,7 +80,7 @@ chosen_stands choice count size e =
 record HasBlocks (size : SizeEntry) (blocks : ℕ → List ℕ) : Type 0 where
   pub list : List ℕ
   pub of_size : AreOfSize size list
-  pub are : (b : ℕ) → b < size.blocks → block_in size list b ≡ blocks b
+  pub are : (b : ℕ) → b < size.blocks → block_of size.blocks b list ≡ blocks b
 
 -- There are codewords of a symbol with any blocks of the right lengths.
 words_of_blocks : (size : SizeEntry) (blocks : ℕ → List ℕ) → IsSize size → AreBlocks size blocks → HasBlocks size blocks
@@ -91,15 +91,15 @@ words_of_blocks size blocks entry are =
 -- The list is the data codewords of a block, and check codewords that make them a codeword.
 record IsCompletion (size : SizeEntry) (words : List ℕ) (b : ℕ) (list : List ℕ) : Type 0 where
   pub checks : List ℕ
-  pub whole : list ≡ take (block_data size b) (block_in size words b) ++ checks
+  pub whole : list ≡ take (block_data size b) (block_of size.blocks b words) ++ checks
   pub long : length list ≡ block_length size b
   pub codeword : IsCodeword (block_check size) list
 
 -- A block has its data codewords.
 front_length : (size : SizeEntry) (words : List ℕ) → AreOfSize size words → (b : ℕ) → b < size.blocks
-    → length (take (block_data size b) (block_in size words b)) ≡ block_data size b
+    → length (take (block_data size b) (block_of size.blocks b words)) ≡ block_data size b
 front_length size words h b hb =
-    length-take-le (block_data size b) (block_in size words b)
+    length-take-le (block_data size b) (block_of size.blocks b words)
     (omega (arith, length_of_block (words_with size words) b h hb, (block_facts size h.size b hb).parts))
 
 -- Each block has check codewords that complete it.
@@ -107,9 +107,9 @@ completion : (size : SizeEntry) (words : List ℕ) → AreOfSize size words → 
     → (list : List ℕ) × IsCompletion size words b list
 completion size words h b hb =
     let f = block_facts size h.size b hb in
-    let front = take (block_data size b) (block_in size words b) in
+    let front = take (block_data size b) (block_of size.blocks b words) in
     let long : length front ≡ block_data size b = front_length size words h b hb in
-    let bytes = All-take (λ w. w < 256) (block_data size b) (block_in size words b)
+    let bytes = All-take (λ w. w < 256) (block_data size b) (block_of size.blocks b words)
     (bytes_in_block size words h b hb) in
     let made = checks_are_there (block_check size) front bytes (omega (arith, f.few_checks))
     (omega (arith, long, f.parts, f.short)) in (
@@ -154,7 +154,7 @@ checks_for size data_words entry long bytes =
     (λ b hb. ((blocks.1 b hb).long, codeword_bytes (block_check size) (blocks.0 b) (blocks.1 b hb).codeword)) in
     let stay : first_data size made.list ≡ first_data size u =
     same_data_by_blocks (words_with size made.list) (words_with size u) made.of_size hu refl (λ b hb.
-    let front = take (block_data size b) (block_in size u b) in
+    let front = take (block_data size b) (block_of size.blocks b u) in
     let checks = (blocks.1 b hb).checks in
     ap (take (block_data size b)) (made.are b hb ∙ (blocks.1 b hb).whole)
     ∙ ap (λ n. take n (front ++ checks)) (sym (front_length size u hu b hb)) ∙ take-append_seam front checks) in

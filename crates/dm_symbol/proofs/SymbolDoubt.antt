@@ -1,15 +1,15 @@
 -- Which codewords are erased, by the marks of a symbol, and that none is where no module is doubtful.
 use Rattle.dm_symbol.proofs.Names.{◌≡◌, ℕ, zero, suc, ◌+◌, ◌-◌, ◌/◌, ◌%◌, ◌^◌, ◌<◌, ◌≤◌, Bool, true, false, not, cond}
-use Rattle.dm_symbol.proofs.Names.{◌&&◌, nat_eq, List, [], ◌∷◌, length, get_or, map, Some, None, refl, sym, ap, subst}
-use Rattle.dm_symbol.proofs.Names.{◌∙◌, arith, sum_by, count_by, range_with_len, agree_below_at, sum_by-cons, place}
-use Rattle.dm_symbol.proofs.Names.{erased_places, SizeEntry, mapping_rows, mapping_columns, codeword_count, SymbolView}
-use Rattle.dm_symbol.proofs.Names.{WordsView, places_of_block, Holds, is_fault, is_doubtful_bit, is_erased, erased_in}
-use Rattle.dm_symbol.proofs.Names.{is_sure_fault, sure_fault_count, is_mark, marked_in}
+use Rattle.dm_symbol.proofs.Names.{Standard, erased_by, ◌&&◌, nat_eq, List, [], ◌∷◌, length, get_or, map, Some, None}
+use Rattle.dm_symbol.proofs.Names.{refl, sym, ap, subst, ◌∙◌, arith, sum_by, count_by, range_with_len, agree_below_at}
+use Rattle.dm_symbol.proofs.Names.{sum_by-cons, place, SizeEntry, mapping_rows, mapping_columns}
+use Rattle.dm_symbol.proofs.Names.{codeword_count, SymbolView, WordsView, places_of_block, Holds, is_fault, is_erased}
+use Rattle.dm_symbol.proofs.Names.{sure_fault_count, is_mark, marked_in}
 use Rattle.std.proofs.Common.{◌||◌, filter}
 use Rattle.std.specs.List.{list_any}
 use Rattle.dm_place.specs.Placement.{shapes}
 use Rattle.dm_code.specs.Erased.{erased_places_from}
-use Rattle.dm_layout.specs.symbols.Border.{border_fault_count}
+use Rattle.dm_layout.specs.symbols.Border.{border_fault_count, mapped_cell}
 use Rattle.dm_place.specs.Holding.{bit_of}
 use Rattle.dm_place.proofs.Exported.{count_at_sides}
 use Rattle.dm_layout.proofs.symbols.Exported.{placed_size}
@@ -28,7 +28,7 @@ erased_nowhere n f none (x ∷ xs) =
     ∙ erased_nowhere (suc n) f none xs
 
 -- Where no module is doubtful, no place is erased.
-pub erased_by_none : (size : SizeEntry) (b : ℕ) → erased_in size None b ≡ []
+pub erased_by_none : (size : SizeEntry) (b : ℕ) → erased_by Standard size None b ≡ []
 erased_by_none size b =
     erased_nowhere 0 (is_erased size None) (λ j. refl) (places_of_block size.blocks b (codeword_count size))
 
@@ -80,8 +80,8 @@ module _ (size : SizeEntry) (rows : List (List Bool)) (marks : List ℕ)
       let C = mapping_columns size in
       let count : length (shapes R C) ≡ codeword_count size =
       count_at_sides R C (codeword_count size) (placed_size size h.codewords.size) in
-      same_any (is_doubtful_bit size (Some doubt) j) (bit_of marks j) 1 8 (λ bit low high.
-      h.bits j bit (place R C j bit) (record {
+      same_any (λ bit. mapped_cell doubt (place R C j bit).row (place R C j bit).column) (bit_of marks j) 1 8
+      (λ bit low high. h.bits j bit (place R C j bit) (record {
         word_in = omega (arith, hj, count);
         from_one = low;
         to_eight =
@@ -91,11 +91,11 @@ module _ (size : SizeEntry) (rows : List (List Bool)) (marks : List ℕ)
       ∙ byte_has_bit (get_or marks j 0) (h.codewords.bytes j 0 (omega (arith, hj, h.codewords.count)))
 
   -- The erased places of a block are those with a mark.
-  erased_by_marks : (b : ℕ) → erased_in size (Some doubt) b ≡ marked_in size (Some marks) b
+  erased_by_marks : (b : ℕ) → erased_by Standard size (Some doubt) b ≡ marked_in size (Some marks) b
   erased_by_marks b =
       let places = places_of_block size.blocks b in
       let at_mark = λ (j : ℕ). get_or marks j 0 in
-      ap erased_places (same_filtered (is_erased size (Some doubt)) (λ j. is_mark (get_or marks j 0))
+      ap (erased_places_from 0) (same_filtered (is_erased size (Some doubt)) (λ j. is_mark (get_or marks j 0))
       (λ j. nat_eq (j % size.blocks) b) 0 (codeword_count size)
       (λ j low high. erased_by_mark j (omega (arith, high)))
       ∙ ap (λ n. map (λ j. is_mark (get_or marks j 0)) (places n)) (sym h.codewords.count)
@@ -113,10 +113,10 @@ held_of_size size doubtful marks of_size h =
 -- Doubtful modules of the size of a symbol hold the marks.
 pub erased_by_held : (size : SizeEntry) (doubtful : SymbolView) (marks : WordsView) (b : ℕ) → doubtful.size ≡ size
     → Holds doubtful marks
-    → erased_in size (Some doubtful) b ≡ marked_in size (Some marks.list) b
+    → erased_by Standard size (Some doubtful) b ≡ marked_in size (Some marks.list) b
 erased_by_held size doubtful marks b of_size h =
     let here = held_of_size size doubtful marks of_size h in
-    ap (λ s. erased_in size (Some (record { size = s; rows = doubtful.rows })) b) of_size
+    ap (λ s. erased_by Standard size (Some (record { size = s; rows = doubtful.rows })) b) of_size
     ∙ erased_by_marks size doubtful.rows marks.list here b
 
 -- A codeword is erased where the mark that these modules hold for it isn't 0.
@@ -161,5 +161,6 @@ nothing_doubted false = refl
 -- Where no module is doubtful, each border fault is sure.
 pub faults_by_none : (modules : SymbolView) → border_fault_count modules ≡ sure_fault_count modules None
 faults_by_none modules =
-    same_counts (is_fault modules) (is_sure_fault modules None) modules.size.columns 0 modules.size.rows
+    same_counts (is_fault modules) (λ row column. is_fault modules row column && not false) modules.size.columns 0
+    modules.size.rows
     (λ row column. nothing_doubted (is_fault modules row column))

@@ -2,9 +2,8 @@
 use Rattle.dm_symbol.proofs.Names.{length_of_block, word_of_block, ◌≡◌, ℕ, ◌+◌, ◌*◌, ◌<◌, List, Option, inl, inr, refl}
 use Rattle.dm_symbol.proofs.Names.{sym, subst, arith, All, All-from_get_or, All-get_or, All-take, Extent, Wide}
 use Rattle.dm_symbol.proofs.Names.{SizeEntry, block_check, block_length, SymbolView, Dealing, Standard, Restarted}
-use Rattle.dm_symbol.proofs.Names.{erased_in, IsDealtTwoWays, dealt, erased_by, words_with, AreOfSize}
-use Rattle.dm_symbol.proofs.Names.{AreBlocksNear, block_in, first_data, AreRestoredBy, AreRestored, AreLost}
-use Rattle.dm_symbol.proofs.Names.{IsFirstLost, Holds}
+use Rattle.dm_symbol.proofs.Names.{IsDealtTwoWays, dealt, erased_by, words_with, AreOfSize, AreBlocksNear, first_data}
+use Rattle.dm_symbol.proofs.Names.{AreRestoredBy, AreRestored, AreLost, IsFirstLost, Holds, block_of}
 use Rattle.dm_layout.proofs.symbols.Exported.{place_inside, same_by_blocks}
 use Rattle.dm_code.proofs.Exported.{near_but_one}
 use Rattle.std.proofs.lemmas.Bool.{cases_order}
@@ -13,9 +12,9 @@ use Rattle.dm_symbol.proofs.Dealings.{dealt_of_size, same_dealt}
 
 -- The codewords of a block are bytes.
 pub bytes_in_block : (size : SizeEntry) (words : List ℕ) → AreOfSize size words → (b : ℕ) → b < size.blocks
-    → All (λ w. w < 256) (block_in size words b)
+    → All (λ w. w < 256) (block_of size.blocks b words)
 bytes_in_block size words h b hb =
-    All-from_get_or (λ w. w < 256) (block_in size words b) 0 (λ i hi.
+    All-from_get_or (λ w. w < 256) (block_of size.blocks b words) 0 (λ i hi.
     let within : i < block_length size b = omega (arith, hi, length_of_block (words_with size words) b h hb) in
     subst (λ w. w < 256) (sym (word_of_block (words_with size words) b i h hb within))
     (All-get_or (λ w. w < 256) words (i * size.blocks + b) 0 (place_inside (words_with size words) b i h hb within)
@@ -28,7 +27,7 @@ data_are_bytes size words h = All-take (λ w. w < 256) size.data_count words h.b
 
 -- Codewords of a symbol with equal blocks are equal.
 pub equal_blocks : (size : SizeEntry) (u v : List ℕ) → AreOfSize size u → AreOfSize size v
-    → ((b : ℕ) → b < size.blocks → block_in size u b ≡ block_in size v b) → u ≡ v
+    → ((b : ℕ) → b < size.blocks → block_of size.blocks b u ≡ block_of size.blocks b v) → u ≡ v
 equal_blocks size u v hu hv same = same_by_blocks (words_with size u) (words_with size v) hu hv refl same
 
 -- Only one block is the first to which no codeword is near.
@@ -37,13 +36,16 @@ pub first_is_one : (size : SizeEntry) (erased : ℕ → List ℕ) (words : List 
 first_is_one size erased words a b ha hb =
     elim (cases_order a b) [
       | inl e ↦ e
-      | inr other ↦ elim other [ inl h ↦ absurd (ha.lost (hb.first a h)) | inr h ↦ absurd (hb.lost (ha.first b h)) ]
+      | inr other ↦ elim other [
+        | inl h ↦ absurd (ha.lost (hb.first a h).0 (hb.first a h).1)
+        | inr h ↦ absurd (hb.lost (ha.first b h).0 (ha.first b h).1)
+      ]
     ]
 
 module _ (modules : SymbolView) (doubtful : Option SymbolView) where
   -- The erased places of a block.
   abbrev erased : ℕ → List ℕ
-  erased = erased_in modules.size doubtful
+  erased = erased_by Standard modules.size doubtful
 
   -- The symbol has this size.
   abbrev size : SizeEntry
@@ -64,8 +66,9 @@ module _ (modules : SymbolView) (doubtful : Option SymbolView) where
             (dealt_of_size d size c two hu.of_size) (dealt_of_size d size f two hv.of_size) (λ b hb.
             let facts = block_facts size hu.of_size.size b hb in
             let long = length_of_block (words_with size word) b of_size hb in
-            near_but_one (block_check size) (block_in size word b) (places b) (block_in size (dealt d size c) b)
-            (block_in size (dealt d size f) b) (omega (arith, long, facts.short)) (hu.near b hb) (near b hb))),
+            near_but_one (block_check size) (block_of size.blocks b word) (places b)
+            (block_of size.blocks b (dealt d size c))
+            (block_of size.blocks b (dealt d size f)) (omega (arith, long, facts.short)) (hu.near b hb) (near b hb))),
       )
 
   -- What is near by the standard's dealing isn't restored by the other.
@@ -75,7 +78,7 @@ module _ (modules : SymbolView) (doubtful : Option SymbolView) where
       let same : v ≡ u = held_is_one modules v u hv.by.words_held hu.words_held in
       let tried = hv.tried refl in
       let first : IsFirstLost size erased u tried.2 = subst (λ w. IsFirstLost size erased w tried.2) same tried.3 in
-      first.lost (block_in size c tried.2, hu.near tried.2 first.in_symbol)
+      first.lost (block_of size.blocks tried.2 c) (hu.near tried.2 first.in_symbol)
 
   -- A symbol is restored by one dealing.
   dealing_is_one : (x y : Extent) (d e : Dealing) (u c v f : List ℕ) → AreRestored x modules doubtful d u c
@@ -114,7 +117,7 @@ module _ (modules : SymbolView) (doubtful : Option SymbolView) where
       by Standard h =
           let near : AreBlocksNear size erased v c =
           subst (λ w. AreBlocksNear size erased w c) (same h.by.words_held) h.by.near in
-          lost.first.lost (block_in size c b, near b lost.first.in_symbol)
+          lost.first.lost (block_of size.blocks b c) (near b lost.first.in_symbol)
       by Restarted h =
           lost.otherwise c (subst (λ w. AreRestored extent modules doubtful Restarted w c) (same h.by.words_held) h)
 

@@ -3,8 +3,8 @@ use Rattle.dm_symbol.proofs.Names.{near_none_but, ◌≡◌, ℕ, zero, suc, ◌
 use Rattle.dm_symbol.proofs.Names.{length, get_or, map, Option, Some, None, Result, Ok, Err, refl, sym, ap, subst, ◌∙◌}
 use Rattle.dm_symbol.proofs.Names.{below_more, arith, OnOk, range_with_len, get_or_append_left, get_or_push, IsNear}
 use Rattle.dm_symbol.proofs.Names.{distance, IsNearBut, distance_but, SizeEntry, block_check, BlockReading}
-use Rattle.dm_symbol.proofs.Names.{AreBlocksNear, HasNearBut, block_in, IsFirstLost, IsBlockRestored, AreBlocksMended}
-use Rattle.dm_symbol.proofs.Names.{block_reading, block_readings}
+use Rattle.dm_symbol.proofs.Names.{AreBlocksNear, IsFirstLost, IsBlockRestored, AreBlocksMended, block_reading}
+use Rattle.dm_symbol.proofs.Names.{block_readings, block_of}
 use Rattle.std.specs.Prelude.{IfErr}
 use Rattle.dm_symbol.proofs.SymbolBelow.{distance_plain}
 
@@ -61,24 +61,27 @@ said_more of before after list d b r e so_far same now =
 module _ (size : SizeEntry) (e f : ℕ → List ℕ) (same : (b : ℕ) → b < size.blocks → e b ≡ f b) where
   -- Blocks that are near but for the ones are near but for the others.
   pub near_moves : (u v : List ℕ) → AreBlocksNear size e u v → AreBlocksNear size f u v
-  near_moves u v h = λ b hb. subst (λ p. IsNearBut (block_check size) (block_in size u b) p (block_in size v b))
+  near_moves u v h = λ b hb.
+      subst (λ p. IsNearBut (block_check size) (block_of size.blocks b u) p (block_of size.blocks b v))
       (same b hb) (h b hb)
 
   -- Nothing is near but for the others where nothing is but for the ones, and the other way round.
   pub lost_moves : (u : List ℕ) (b : ℕ) → IsFirstLost size e u b → IsFirstLost size f u b
   lost_moves u b h = record {
     in_symbol = h.in_symbol;
-    lost = subst (λ p. HasNearBut (block_check size) (block_in size u b) p → ⊥) (same b h.in_symbol) h.lost;
+    lost = subst (λ p. (c : List ℕ) → IsNearBut (block_check size) (block_of size.blocks b u) p c → ⊥)
+        (same b h.in_symbol) h.lost;
     first = λ a ha.
-        subst (λ p. HasNearBut (block_check size) (block_in size u a) p) (same a (omega (arith, ha, h.in_symbol)))
-        (h.first a ha);
+        subst (λ p. (c : List ℕ) × IsNearBut (block_check size) (block_of size.blocks a u) p c)
+        (same a (omega (arith, ha, h.in_symbol))) (h.first a ha);
   }
 
   -- Blocks that are restored but for the ones are restored but for the others.
   pub mended_moves : (u v : List ℕ) (list : List (Option BlockReading)) → AreBlocksMended size e u v list
       → AreBlocksMended size f u v list
   mended_moves u v list h = λ b hb.
-      subst (λ p. IsBlockRestored (block_check size) p (block_in size u b) (block_in size v b) (get_or list b None))
+      subst (λ p. IsBlockRestored (block_check size) p (block_of size.blocks b u) (block_of size.blocks b v)
+      (get_or list b None))
       (same b hb) (h b hb)
 
   -- The same is said of the blocks.
@@ -86,14 +89,14 @@ module _ (size : SizeEntry) (e f : ℕ → List ℕ) (same : (b : ℕ) → b < s
   readings_move u v = each 0 size.blocks (λ b low high. omega (arith, high))
     where
       of : (ℕ → List ℕ) → ℕ → BlockReading
-      of p b = block_reading (block_check size) (p b) (block_in size u b) (block_in size v b)
+      of p b = block_reading (block_check size) (p b) (block_of size.blocks b u) (block_of size.blocks b v)
 
       each : (a n : ℕ) → ((b : ℕ) → a ≤ b → b < a + n → b < size.blocks)
           → map (of e) (range_with_len a n) ≡ map (of f) (range_with_len a n)
       each a zero inside = refl
       each a (suc n) inside =
           let here : of e a ≡ of f a =
-          ap (λ p. block_reading (block_check size) p (block_in size u a) (block_in size v a))
+          ap (λ p. block_reading (block_check size) p (block_of size.blocks a u) (block_of size.blocks a v))
           (same a (inside a (omega arith) (omega arith))) in
           ap (λ r. r ∷ map (of e) (range_with_len (a + 1) n)) here
           ∙ ap (λ rs. of f a ∷ rs) (each (a + 1) n (λ b low high. inside b (omega arith) (omega arith)))

@@ -4,7 +4,7 @@ use Rattle.dm_symbol.proofs.Names.{false, not, ◌&&◌, eqb, List, get_or, None
 use Rattle.dm_symbol.proofs.Names.{arith, cases_eq, false≢true, Extent, Usual, Item, Profile, IsNear, distance}
 use Rattle.dm_symbol.proofs.Names.{IsNearBut, Square, SizeRow, IsRow, GridView, IsGrid, symbol_modules, block_check}
 use Rattle.dm_symbol.proofs.Names.{SymbolView, border_fault_count, row_facts, same_row, as_content, IsMessage, Standard}
-use Rattle.dm_symbol.proofs.Names.{sure_fault_count, AreOfSize, block_in, AreRestored, IsNormalGrid, Reads, words_with}
+use Rattle.dm_symbol.proofs.Names.{sure_fault_count, AreOfSize, AreRestored, IsNormalGrid, Reads, words_with}
 use Rattle.std.proofs.lemmas.Bool.Decides.{nat_tests}
 use Rattle.std.proofs.lemmas.Bool.{true≢false}
 use Rattle.dm_code.specs.Codeword.{differing}
@@ -214,7 +214,7 @@ border_changes size rows others none =
 restored_plainly : (extent : Extent) (modules : SymbolView) (u c : List ℕ)
     → HoldsModules modules (words_with modules.size u) → AreOfSize modules.size c
     → ((b : ℕ) → b < modules.size.blocks
-    → IsNear (block_check modules.size) (block_in modules.size u b) (block_in modules.size c b))
+    → IsNear (block_check modules.size) (block_of modules.size.blocks b u) (block_of modules.size.blocks b c))
     → AreRestored extent modules None Standard u c
 restored_plainly extent modules u c held of_size near = record {
   tried = λ e. cc;
@@ -223,9 +223,9 @@ restored_plainly extent modules u c held of_size near = record {
     of_size = of_size;
     near = λ b hb.
         let k = block_check modules.size in
-        subst (λ e. IsNearBut k (block_in modules.size u b) e (block_in modules.size c b))
+        subst (λ e. IsNearBut k (block_of modules.size.blocks b u) e (block_of modules.size.blocks b c))
         (sym (erased_by_none modules.size b))
-        (near_none_but k (block_in modules.size u b) (block_in modules.size c b) (near b hb));
+        (near_none_but k (block_of modules.size.blocks b u) (block_of modules.size.blocks b c) (near b hb));
   };
 }
 

@@ -1,12 +1,12 @@
 -- Symbols in which contents are written are read as these, and what follows for normal symbols.
 use Rattle.dm_symbol.proofs.Names.{near_none_but, ◌≡◌, ◌↔◌, ℕ, List, replicate, None, Result, Ok, refl, sym, [], ap}
-use Rattle.dm_symbol.proofs.Names.{subst, ◌∙◌, arith, zero, suc, ◌+◌, ◌∷◌, map, range_with_len, IsNearBut, IsLaid}
-use Rattle.dm_symbol.proofs.Names.{BlockReading, sure_fault_count, erased_in, words_with, AreCodewordsOf, block_in}
-use Rattle.dm_symbol.proofs.Names.{first_data, AreRestored, block_reading, block_readings, Extent, Wide, Profile}
-use Rattle.dm_symbol.proofs.Names.{ContentView, IsContent, Says, IsSaidIn, content_form, padded, said_is_one}
-use Rattle.dm_symbol.proofs.Names.{SizeChoice, SizeEntry, block_check, SymbolView, size_facts, Standard}
-use Rattle.dm_symbol.proofs.Names.{ContentReadFault, nothing_wrong, ContentReadingView, ReadsContent, ContentReadResult}
-use Rattle.dm_symbol.proofs.Names.{content_reading_of, IsIdentifier, IsContentWrittenIn}
+use Rattle.dm_symbol.proofs.Names.{erased_by, subst, ◌∙◌, arith, zero, suc, ◌+◌, ◌∷◌, map, range_with_len, IsNearBut}
+use Rattle.dm_symbol.proofs.Names.{IsLaid, BlockReading, sure_fault_count, words_with, AreCodewordsOf, first_data}
+use Rattle.dm_symbol.proofs.Names.{AreRestored, block_reading, block_readings, Extent, Wide, Profile, ContentView}
+use Rattle.dm_symbol.proofs.Names.{IsContent, Says, IsSaidIn, content_form, padded, said_is_one, SizeChoice, SizeEntry}
+use Rattle.dm_symbol.proofs.Names.{block_check, SymbolView, size_facts, Standard, ContentReadFault, nothing_wrong}
+use Rattle.dm_symbol.proofs.Names.{ContentReadingView, ReadsContent, ContentReadResult, content_reading_of}
+use Rattle.dm_symbol.proofs.Names.{IsIdentifier, IsContentWrittenIn, block_of}
 use Rattle.dm_words.proofs.Exported.{form_says_in, content_form_codewords, content_form_count}
 use Rattle.dm_symbol.specs.NormalContent.{ContentFits}
 use Rattle.dm_symbol.proofs.Distances.{near_itself, distance_to_itself}
@@ -39,7 +39,7 @@ module _ (g : SymbolView) (words : List ℕ) (laid : IsLaid (words_with g.size w
       of_size = laid.holds.codewords;
       near = λ b hb.
           let k = block_check g.size in
-          let block = block_in g.size words b in
+          let block = block_of g.size.blocks b words in
           subst (λ e. IsNearBut k block e block) (sym (erased_by_none g.size b))
           (near_none_but k block block (near_itself k block (checked b hb)));
     };
@@ -47,12 +47,14 @@ module _ (g : SymbolView) (words : List ℕ) (laid : IsLaid (words_with g.size w
 
 -- Where nothing is doubtful and codewords are held, nothing is wrong in any block.
 pub nothing_is_wrong : (size : SizeEntry) (words : List ℕ)
-    → block_readings size (erased_in size None) words words ≡ replicate size.blocks (nothing_wrong (block_check size))
+    → block_readings size (erased_by Standard size None) words words
+    ≡ replicate size.blocks (nothing_wrong (block_check size))
 nothing_is_wrong size words =
     let k = block_check size in
-    map_to_one (λ b. block_reading k (erased_in size None b) (block_in size words b) (block_in size words b))
+    map_to_one (λ b. block_reading k (erased_by Standard size None b) (block_of size.blocks b words)
+    (block_of size.blocks b words))
     (nothing_wrong k) 0 size.blocks (λ b.
-    let block = block_in size words b in
+    let block = block_of size.blocks b words in
     let nowhere = distance_plain block block ∙ distance_to_itself block in
     ap (λ e. block_reading k e block block) (erased_by_none size b)
     ∙ sym (reading_is k 0 0 k [] block block (sym nowhere) refl (omega arith)))
@@ -104,7 +106,7 @@ module _ (choice : SizeChoice) (p : Profile) (l : ContentView) where
           (subst (λ words. IsIdentifier words l number) (sym n.data_words) is)
           (ap (λ blocks. Ok (content_reading_of l number Standard blocks 0)) (sym (nothing_is_wrong g.size n.words))
           ∙ ap (λ faults. Ok (content_reading_of l number Standard
-          (block_readings g.size (erased_in g.size None) n.words n.words) faults))
+          (block_readings g.size (erased_by Standard g.size None) n.words n.words) faults))
           (sym (no_sure_fault g n.words n.laid n.checked)))
 
       -- It has that result alone.

@@ -3,8 +3,7 @@
 use Rattle.std.specs.Prelude.{◌≡◌, ℕ, ◌<◌, ◌≤◌, ◌↔◌, List, Option, Result, Ok, Err, MatchResult}
 use Rattle.dm_words.specs.declared.extent.Extent.{Extent}
 use Rattle.dm_words.specs.declared.contents.fault.ContentFault.{ContentFault}
-use Rattle.dm_words.specs.Contents.{ContentView}
-use Rattle.dm_words.specs.Contents.{Says, IsRefused}
+use Rattle.dm_words.specs.Contents.{ContentView, Says, IsRefused}
 use Rattle.dm_words.specs.Symbology.{IsIdentifier}
 use Rattle.dm_layout.specs.symbols.Symbols.{SymbolView}
 use Rattle.dm_symbol.specs.declared.contents.ContentReadingIn.{ContentReadingIn}
@@ -80,9 +79,13 @@ pub data ContentReadResult (extent : Extent) (modules : SymbolView) (doubtful : 
       → sure_fault_count modules doubtful ≤ limit → AreRestored extent modules doubtful dealing words codewords
       → Says extent (first_data modules.size codewords) content
       → IsIdentifier (first_data modules.size codewords) content identifier
-      → result ≡ Ok (content_reading_of content identifier dealing
-      (readings_by dealing modules.size doubtful words codewords)
-      (sure_fault_count modules doubtful))
+      → result ≡ Ok (record {
+        content = content;
+        identifier = identifier;
+        dealing = dealing;
+        blocks = readings_by dealing modules.size doubtful words codewords;
+        border_faults = sure_fault_count modules doubtful;
+      })
       → ContentReadResult extent modules doubtful limit result
 
 -- The result is a reading of this content.

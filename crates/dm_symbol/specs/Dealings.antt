@@ -4,13 +4,13 @@
 -- otherwise: check codeword i, from 0, to block i mod B. In each other size both dealings are the same.
 use Rattle.std.specs.Prelude.{◌≡◌, ℕ, ◌+◌, ◌-◌, ◌*◌, ◌/◌, ◌%◌, cond, nat_lt, List, get_or, map, Option}
 use Rattle.std.specs.List.{range_with_len}
-use Rattle.dm_code.specs.Erased.{erased_places}
+use Rattle.dm_code.specs.Erased.{erased_places_from}
 use Rattle.dm_layout.specs.symbols.Sizes.{SizeEntry, codeword_count}
 use Rattle.dm_layout.specs.symbols.Symbols.{SymbolView}
 use Rattle.dm_layout.specs.symbols.Blocks.{places_of_block}
 use Rattle.dm_symbol.specs.declared.symbol.dealing.Dealing.{Dealing}
 use Rattle.dm_symbol.specs.declared.symbol.dealing.Dealing.TheVariants.{Standard, Restarted}
-use Rattle.dm_symbol.specs.Doubt.{is_erased, erased_in}
+use Rattle.dm_symbol.specs.Doubt.{is_erased}
 
 -- This is the size in which both are found.
 abbrev pub IsDealtTwoWays : SizeEntry → Type 0
@@ -30,9 +30,11 @@ dealt Standard size words = words
 dealt Restarted size words =
     map (λ j. get_or words (restarted_place size j) 0) (range_with_len 0 (codeword_count size))
 
--- The erased places of block b, by this dealing.
+-- The erased places of block b of a symbol of this size, by this dealing, are those of its places, counted from 0 in
+-- the block, whose codewords are erased.
 abbrev pub erased_by : Dealing → SizeEntry → Option SymbolView → ℕ → List ℕ
-erased_by Standard size doubtful b = erased_in size doubtful b
+erased_by Standard size doubtful b =
+    erased_places_from 0 (map (is_erased size doubtful) (places_of_block size.blocks b (codeword_count size)))
 erased_by Restarted size doubtful b =
-    erased_places (map (λ j. is_erased size doubtful (restarted_place size j))
+    erased_places_from 0 (map (λ j. is_erased size doubtful (restarted_place size j))
     (places_of_block size.blocks b (codeword_count size)))

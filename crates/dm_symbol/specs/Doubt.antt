@@ -6,31 +6,20 @@
 -- a caller may name doubtful modules, that all check codewords of a block may be spent so, in every size and with none
 -- kept back for detection, and that a doubtful border module is never counted as wrong, are rules of this project. So a
 -- block that has erased places and no check codeword left tells nothing of whether it was right.
-use Rattle.std.specs.Prelude.{ℕ, Bool, List, map, Option}
+use Rattle.std.specs.Prelude.{ℕ, Bool, Option}
 use Rattle.std.specs.List.{range_with_len, list_any}
 use Rattle.dm_place.specs.Border.{symbol_line}
 use Rattle.dm_place.specs.Placement.{place}
-use Rattle.dm_code.specs.Erased.{erased_places}
-use Rattle.dm_layout.specs.symbols.Sizes.{SizeEntry, mapping_rows, mapping_columns, codeword_count}
+use Rattle.dm_layout.specs.symbols.Sizes.{SizeEntry, mapping_rows, mapping_columns}
 use Rattle.dm_layout.specs.symbols.Symbols.{SymbolView}
-pub use Rattle.dm_layout.specs.symbols.SureFaults.{is_doubtful, is_sure_fault, sure_fault_count}
-use Rattle.dm_layout.specs.symbols.Blocks.{places_of_block}
+pub use Rattle.dm_layout.specs.symbols.SureFaults.{is_doubtful, sure_fault_count}
 
 -- ---- codewords
 
--- A bit, 1 to 8, of a codeword, which is counted from 0 in the symbol, is doubtful if the module at which the bit's
--- place lies is. Beyond these ranges this means nothing.
-abbrev pub is_doubtful_bit : SizeEntry → Option SymbolView → ℕ → ℕ → Bool
-is_doubtful_bit size doubtful word bit =
-    is_doubtful doubtful (symbol_line size.region_rows (place (mapping_rows size) (mapping_columns size) word bit).row)
-    (symbol_line size.region_columns (place (mapping_rows size) (mapping_columns size) word bit).column)
-
--- A codeword is erased if one of its eight modules, or more, is doubtful.
+-- A codeword, which is counted from 0 in the symbol, is erased if one of its eight modules, or more, is doubtful: the
+-- module at which the place of bit 1, 2 .. or 8 lies. Beyond the symbol's codewords this means nothing.
 abbrev pub is_erased : SizeEntry → Option SymbolView → ℕ → Bool
-is_erased size doubtful word = list_any (is_doubtful_bit size doubtful word) (range_with_len 1 8)
-
--- The erased places of block b of a symbol of this size are those of its places, counted from 0 in the block, whose
--- codewords are erased.
-abbrev pub erased_in : SizeEntry → Option SymbolView → ℕ → List ℕ
-erased_in size doubtful b =
-    erased_places (map (is_erased size doubtful) (places_of_block size.blocks b (codeword_count size)))
+is_erased size doubtful word =
+    list_any (λ bit. let cell = place (mapping_rows size) (mapping_columns size) word bit in
+    is_doubtful doubtful (symbol_line size.region_rows cell.row) (symbol_line size.region_columns cell.column))
+    (range_with_len 1 8)

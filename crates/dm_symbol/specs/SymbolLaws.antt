@@ -7,7 +7,7 @@ use Rattle.dm_words.specs.declared.profile.Profile.{Profile}
 use Rattle.dm_layout.specs.Sizes as squares
 use Rattle.dm_layout.specs.Grid.{GridView, IsGrid, symbol_modules}
 use Rattle.dm_code.specs.Codeword.{IsNear}
-use Rattle.dm_code.specs.Erased.{IsNearBut, erased_places}
+use Rattle.dm_code.specs.Erased.{IsNearBut, erased_places_from}
 use Rattle.dm_layout.specs.symbols.Blocks.{block_of, places_of_block}
 use Rattle.dm_layout.specs.symbols.Sizes.{SizeEntry, IsSize}
 use Rattle.dm_layout.specs.symbols.Symbols.{SymbolView, IsSymbol, module_at}
@@ -17,9 +17,9 @@ use Rattle.dm_symbol.specs.declared.symbol.reading.BlockReading.{BlockReading}
 use Rattle.dm_symbol.specs.declared.symbol.inspection.SymbolInspectionIn.{SymbolInspectionIn}
 use Rattle.dm_symbol.specs.declared.reading.Reading.{Reading}
 use Rattle.dm_symbol.specs.declared.reading.ReadFault.{ReadFault}
-use Rattle.dm_symbol.specs.Doubt.{erased_in, is_erased, sure_fault_count}
+use Rattle.dm_symbol.specs.Doubt.{is_erased, sure_fault_count}
 use Rattle.dm_symbol.specs.Dealings.{IsDealtTwoWays, dealt, erased_by}
-use Rattle.dm_symbol.specs.SymbolBlocks.{AreOfSize, block_in, first_data}
+use Rattle.dm_symbol.specs.SymbolBlocks.{AreOfSize, first_data}
 use Rattle.dm_symbol.specs.NormalGrid.{IsNormalGrid}
 use Rattle.dm_symbol.specs.Reading.{Reads, ReadResult, content_fault}
 use Rattle.dm_words.specs.ContentExtents.{as_content}
@@ -31,7 +31,7 @@ use Rattle.dm_symbol.specs.SymbolInspection.{IsSymbolInspection}
 abbrev pub NoDoubtIsNearness : Type 0
 NoDoubtIsNearness =
     (size : SizeEntry) (b k : ℕ) (block other : List ℕ)
-    → IsNearBut k block (erased_in size None b) other ↔ IsNear k block other
+    → IsNearBut k block (erased_by Standard size None b) other ↔ IsNear k block other
 
 -- With no module doubtful, the sure border faults are all border faults.
 abbrev pub NoDoubtCountsAllFaults : Type 0
@@ -42,7 +42,7 @@ NoDoubtCountsAllFaults = (modules : SymbolView) → sure_fault_count modules Non
 abbrev pub OtherDealingRestarts : Type 0
 OtherDealingRestarts =
     (size : SizeEntry) (words : List ℕ) (b : ℕ) → IsDealtTwoWays size → AreOfSize size words → b < size.blocks
-    → block_in size (dealt Restarted size words) b
+    → block_of size.blocks b (dealt Restarted size words)
     ≡ block_of size.blocks b (first_data size words) ++ block_of size.blocks b (drop size.data_count words)
 
 -- Of these places, those are erased whose codewords are.
@@ -50,7 +50,7 @@ abbrev pub OtherDealingErases : Type 0
 OtherDealingErases =
     (size : SizeEntry) (doubtful : Option SymbolView) (b : ℕ) → IsDealtTwoWays size → IsSize size → b < size.blocks
     → erased_by Restarted size doubtful b
-    ≡ erased_places (map (is_erased size doubtful) (places_of_block size.blocks b size.data_count
+    ≡ erased_places_from 0 (map (is_erased size doubtful) (places_of_block size.blocks b size.data_count
     ++ map (λ i. size.data_count + i) (places_of_block size.blocks b size.check_count)))
 
 -- Modules are all light if none of them is dark.

@@ -12,13 +12,13 @@ pub use Rattle.gf301.proofs.FieldLaws.{sum_zero}
 unfoldable pub use Rattle.gf301.proofs.Lists.{nonzeros, plus, scale}
 pub use Rattle.gf301.proofs.Series.{conv_below, conv_comm, conv_cons, conv_first, conv_nothing, conv_push}
 pub use Rattle.gf301.proofs.Series.{conv_same_left, conv_same_right, conv_scale_left, conv_sum_left, conv_swap}
-pub use Rattle.gf301.proofs.Series.{conv_zero, product_at_zero, product_zero_at}
+pub use Rattle.gf301.proofs.Series.{conv_zero, product_at_zero, product_zero_at, shift}
 unfoldable pub use Rattle.gf301.proofs.PolyLaws.{quotient}
 pub use Rattle.gf301.proofs.PolyLaws.{bytes_plus, bytes_quotient, bytes_times, bytes_values_from, factor_value}
-pub use Rattle.gf301.proofs.PolyLaws.{get_or-plus, get_or-values_from, length-values_from, length_plus, length_quotient}
-pub use Rattle.gf301.proofs.PolyLaws.{length_scale, length_times, root_divides, same_from_values, same_values}
-pub use Rattle.gf301.proofs.PolyLaws.{times_assoc, value_below, value_plus, value_push, value_scale, value_shift}
-pub use Rattle.gf301.proofs.PolyLaws.{value_times, value_zeros, values_from_push}
+pub use Rattle.gf301.proofs.PolyLaws.{get_or-plus, get_or-times, get_or-values_from, length-values_from, length_plus}
+pub use Rattle.gf301.proofs.PolyLaws.{length_quotient, length_scale, length_times, root_divides, same_from_values}
+pub use Rattle.gf301.proofs.PolyLaws.{same_values, times_assoc, value_below, value_plus, value_push, value_scale}
+pub use Rattle.gf301.proofs.PolyLaws.{value_shift, value_times, value_zeros, values_from_push}
 pub use Rattle.gf301.proofs.GeneratorLaws.{generator_first, generator_is, generator_length, generator_positive}
 pub use Rattle.gf301.proofs.GeneratorLaws.{generator_root, value_one}
 unfoldable pub use Rattle.gf301.proofs.Roots.{roots, roots_step}

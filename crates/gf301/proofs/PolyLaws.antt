@@ -1,7 +1,8 @@
 -- Laws of polynomials.
 use Rattle.std.proofs.Common.{◌≡◌, ℕ, zero, suc, ◌+◌, ◌-◌, ◌<◌, ◌≤◌, List, [], ◌∷◌, ◌++◌, length, map, replicate}
-use Rattle.std.proofs.Common.{get_or, zero-add, refl, sym, ap, ◌∙◌, arith, bit_xor, length-append}
+use Rattle.std.proofs.Common.{get_or, zero-add, refl, sym, ap, subst, ◌∙◌, arith, bit_xor, length-append}
 use lib.Bits.{xor_assoc, xor_comm, xor_self, xor_zero_r}
+use Rattle.std.specs.List.{range_with_len}
 use Rattle.std.proofs.lemmas.List.{length-map, length-replicate}
 use Rattle.std.proofs.lemmas.Grind.{same_number_lists}
 use Rattle.gf301.specs.Field.{◌⊕◌, ◌⊗◌, raise, power}
@@ -123,11 +124,27 @@ bytes_values_from f h first zero = λ k d l. absurd (omega arith)
 bytes_values_from f h first (suc n) =
     bytes_cons (f first) (values_from f (suc first) n) (h first) (bytes_values_from f h (suc first) n)
 
+-- They are what the function gives for the numbers from there on.
+values_are_mapped : (f : ℕ → ℕ) (first n : ℕ) → values_from f first n ≡ map f (range_with_len first n)
+unfolding values_from
+values_are_mapped f first zero = refl
+values_are_mapped f first (suc n) =
+    ap (λ t. f first ∷ t) (values_are_mapped f (suc first) n
+    ∙ ap (λ a. map f (range_with_len a n)) (let e : suc first ≡ first + 1 = omega arith in e))
+
 -- ---- The product
+-- A product has the values of the product of the series of both factors.
+pub times_values : (p q : List ℕ) →
+    times p q ≡ values_from (convolution (coefficient p) (coefficient q)) 0 (length p + length q - 1)
+unfolding times
+times_values p q =
+    sym (values_are_mapped (convolution (coefficient p) (coefficient q)) 0 (length p + length q - 1))
+
 -- A product has as many coefficients as its factors together, less one if these have any.
 length_times_is : (p q : List ℕ) → length (times p q) ≡ length p + length q - 1
-unfolding times
-length_times_is p q = length-values_from (convolution (coefficient p) (coefficient q)) 0 (length p + length q - 1)
+length_times_is p q =
+    ap length (times_values p q)
+    ∙ length-values_from (convolution (coefficient p) (coefficient q)) 0 (length p + length q - 1)
 
 -- A product has as many coefficients as its factors together, less one.
 pub length_times : (p q : List ℕ) → 0 < length q → length (times p q) + 1 ≡ length p + length q
@@ -136,17 +153,16 @@ length_times p q h = omega (arith, length_times_is p q)
 -- A coefficient of a product is the one of the product of the series of both factors.
 pub get_or-times : (p q : List ℕ) (n : ℕ) → n < length p + length q - 1 →
     get_or (times p q) n 0 ≡ convolution (coefficient p) (coefficient q) n
-unfolding times
 get_or-times p q n h =
-    get_or-values_from (convolution (coefficient p) (coefficient q)) 0 (length p + length q - 1) n h
+    ap (λ xs. get_or xs n 0) (times_values p q)
+    ∙ get_or-values_from (convolution (coefficient p) (coefficient q)) 0 (length p + length q - 1) n h
     ∙ ap (convolution (coefficient p) (coefficient q)) (zero-add n)
 
 -- A product has bytes as coefficients, whatever the factors are.
 pub bytes_times : (p q : List ℕ) → Bytes (times p q)
-unfolding times
 bytes_times p q =
-    bytes_values_from (convolution (coefficient p) (coefficient q)) (conv_below (coefficient p) (coefficient q)) 0
-    (length p + length q - 1)
+    subst Bytes (sym (times_values p q)) (bytes_values_from (convolution (coefficient p) (coefficient q))
+    (conv_below (coefficient p) (coefficient q)) 0 (length p + length q - 1))
 
 -- The product of the empty list and another is a list of zeros.
 pub times_nothing : (q : List ℕ) → 0 < length q → times [] q ≡ replicate (length q - 1) 0

@@ -4,10 +4,14 @@ use Rattle.std.proofs.Common.{get_or, refl, sym, ap, ◌∙◌, arith, bit_xor}
 use Rattle.std.proofs.lemmas.List.{take_more}
 use lib.Bits.{xor_assoc, xor_comm, xor_zero_r}
 use Rattle.gf301.specs.Field.{◌⊕◌, ◌⊗◌}
-use Rattle.gf301.specs.Polynomial.{shift, coefficient, convolution}
+use Rattle.gf301.specs.Polynomial.{coefficient, convolution}
 use Rattle.gf301.proofs.Additive.{xor_swap}
 use Rattle.gf301.proofs.FieldLaws.{product_sum_left, product_sum_right, product_assoc, product_comm, product_zero_left}
 use Rattle.gf301.proofs.FieldLaws.{product_zero_right, product_below, sum_below}
+
+-- A series is shifted by leaving out its first coefficient.
+abbrev pub shift : (ℕ → ℕ) → ℕ → ℕ
+shift f i = f (suc i)
 
 -- The product of series takes a sum on the left to a sum.
 pub conv_sum_left : (f h g : ℕ → ℕ) (n : ℕ) → convolution (λ i. f i ⊕ h i) g n ≡ convolution f g n ⊕ convolution h g n

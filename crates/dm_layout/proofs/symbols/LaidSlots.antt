@@ -5,8 +5,8 @@ use Rattle.dm_layout.proofs.Names.{get_or, set, sym, ◌∙◌, ap, arith, Decid
 use Rattle.dm_layout.proofs.Names.{and-true, and-false, mod-eq_of_lt, pow_pos, pow_mono, pow-add, mul-add-lt}
 use Rattle.dm_layout.proofs.Names.{bit_at_above, true≢false, cases_eq, cases_lt, lt-leb, le-leb, ltb-true, ne_eqb}
 use Rattle.dm_layout.proofs.Names.{Decides-and, Decides-or, Decides-like, same_from_decides, Cell, At, wrapped_cell}
-use Rattle.dm_layout.proofs.Names.{standard, CellsInside, is_dark_bit, by_anchors, scattered, folded, look_in}
-use Rattle.dm_layout.proofs.Names.{first_column}
+use Rattle.dm_layout.proofs.Names.{CellsInside, is_dark_bit, by_anchors, scattered, folded, look_in, first_column}
+use Rattle.dm_layout.proofs.Names.{cells_of, Standard}
 use Rattle.dm_layout.proofs.symbols.FoldedRows.{IsCell, one_cell, decides_le, decides_cell, folded_or, folded_same}
 use Rattle.dm_layout.proofs.symbols.FoldedRows.{folded_none, folded_cell}
 use Rattle.dm_layout.proofs.symbols.WidenedRows.{put_over, bit_up, none_up}
@@ -224,7 +224,7 @@ folded_marks R C y k r c (x ∷ xs) (z ∷ zs) l h =
 -- The cells of a standard shape in widened rows are folded to where the shape wraps.
 pub wide_folded : (R C i j r c : ℕ) → 6 ≤ R → 6 ≤ C → R % 2 ≡ 0 → C % 2 ≡ 0 → i < R → j < C → (5 * i + j) % 8 ≡ 4 →
     r < R → c < C →
-    CellsInside R C (standard R C i j) → AreFolded R C r c (wide_cells i j) (standard R C i j)
+    CellsInside R C (cells_of R C (Standard i j)) → AreFolded R C r c (wide_cells i j) (cells_of R C (Standard i j))
 wide_folded R C i j r c some least even_rows even_columns li lj anchor lr lc inside = (
   at 2 2 i (j + 2) (omega arith) (omega arith) (omega arith) (omega arith) inside.1,
   (

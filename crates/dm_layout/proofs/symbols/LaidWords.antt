@@ -4,7 +4,7 @@ use Rattle.dm_layout.proofs.Names.{false, ◌&&◌, ◌||◌, nat_eq, nat_lt, Li
 use Rattle.dm_layout.proofs.Names.{replicate, refl, sym, ◌∙◌, ap, arith, get_or-set_same, get_or-set_other, drop-cons}
 use Rattle.dm_layout.proofs.Names.{bit_or, list_all, or_assoc, or-false, and-false, mul-div_cancel_left, mul-mod_right}
 use Rattle.dm_layout.proofs.Names.{and_parts, ltb-true, eqb-true, get_or-map, Place, Cell, Shape, Standard, Corner1}
-use Rattle.dm_layout.proofs.Names.{Corner2, Corner3, Corner4, cells_of, shapes, standard, CellsInside, is_dark_bit}
+use Rattle.dm_layout.proofs.Names.{Corner2, Corner3, Corner4, cells_of, shapes, CellsInside, is_dark_bit}
 use Rattle.dm_layout.proofs.Names.{by_anchors, scattered, folded, corner_marks, with_byte, marks_in, reversed_bits}
 use Rattle.dm_layout.proofs.Names.{slot_of, inside_test, cells_inside}
 use Rattle.std.proofs.Common.{drop_of_length-le}
@@ -90,9 +90,9 @@ module _ (bytes most R C y : ℕ) (slots : List ℕ) (some : 6 ≤ R) (least : 6
 
   -- One more byte in the slot of an anchor marks the cells of the anchor's standard shape.
   put_standard : (i j r c : ℕ) → i < R → j < C → (5 * i + j) % 8 ≡ 4 → r < R → c < C →
-      CellsInside R C (standard R C i j) →
+      CellsInside R C (cells_of R C (Standard i j)) →
       laid_slots most R C (with_byte bytes slots (bytes * i + j / 8) y) r c ≡
-      (laid_slots most R C slots r c || marks_low y 0 (standard R C i j) r c)
+      (laid_slots most R C slots r c || marks_low y 0 (cells_of R C (Standard i j)) r c)
   put_standard i j r c li lj anchor lr lc cells =
       let other : most ≢ i = omega (arith, li, high) in
       let all =
@@ -107,9 +107,9 @@ module _ (bytes most R C y : ℕ) (slots : List ℕ) (some : 6 ≤ R) (least : 6
       other)
       ∙ ap (λ (b : Bool). b || corner) (all ∙ folded_or R C (scattered R slots) (marks_low y 0 (wide_cells i j)) r c)
       ∙ ap (λ (b : Bool). (folded R C (scattered R slots) r c || b) || corner)
-      (folded_marks R C y 0 r c (wide_cells i j) (standard R C i j) lc
+      (folded_marks R C y 0 r c (wide_cells i j) (cells_of R C (Standard i j)) lc
       (wide_folded R C i j r c some least even_rows even_columns li lj anchor lr lc cells))
-      ∙ add_left (folded R C (scattered R slots) r c) corner (marks_low y 0 (standard R C i j) r c)
+      ∙ add_left (folded R C (scattered R slots) r c) corner (marks_low y 0 (cells_of R C (Standard i j)) r c)
     where
       news : List ℕ
       news = set slots i (bit_or (get_or slots i 0) (y * 2 ^ (8 * (j / 8)) % 2 ^ (8 * bytes)))
@@ -146,7 +146,7 @@ module _ (bytes most R C y : ℕ) (slots : List ℕ) (some : 6 ≤ R) (least : 6
       let kind = and_parts (nat_lt i R && nat_lt j C) (nat_eq ((5 * i + j) % 8) 4) both.0 in
       let here = and_parts (nat_lt i R) (nat_lt j C) kind.0 in
       put_standard i j r c (ltb-true i R here.0) (ltb-true j C here.1) (eqb-true ((5 * i + j) % 8) 4 kind.1) lr lc
-      (cells_inside R C (standard R C i j) both.1)
+      (cells_inside R C (cells_of R C (Standard i j)) both.1)
   put_low Corner1 r c fits lr lc =
       let both = and_parts (kind_test R C Corner1) (inside_test R C (cells_of R C Corner1)) fits in
       put_corner (cells_of R C Corner1) r c lc (corner_first R C (tests_of R C 4 4 both.0))

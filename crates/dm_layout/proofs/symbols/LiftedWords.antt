@@ -3,11 +3,10 @@ use Rattle.dm_layout.proofs.Names.{nat_tests, ◌≡◌, ℕ, ◌+◌, ◌-◌, 
 use Rattle.dm_layout.proofs.Names.{nat_eq, nat_lt, List, [], ◌∷◌, map, get_or, refl, sym, ◌∙◌, ap, arith, list_all}
 use Rattle.dm_layout.proofs.Names.{div-eq_of_lt, mod-eq_of_lt, and_parts, ltb-true, ltb-false, eqb-true, lt-leb, Cell}
 use Rattle.dm_layout.proofs.Names.{Shape, Standard, Corner1, Corner2, Corner3, Corner4, At, cells_of, wrapped_cell}
-use Rattle.dm_layout.proofs.Names.{standard, CellsInside, digit, digit-has, inside_test, cells_inside, is_dark_bit}
-use Rattle.dm_layout.proofs.Names.{look_in, bits_in, reversed_bits, first_column, slot_of, slot_byte, IsJoined}
-use Rattle.dm_layout.proofs.Names.{HasSlots, round, IsWidened}
+use Rattle.dm_layout.proofs.Names.{CellsInside, digit, digit-has, inside_test, cells_inside, is_dark_bit, look_in}
+use Rattle.dm_layout.proofs.Names.{bits_in, reversed_bits, first_column, slot_of, slot_byte, IsJoined, HasSlots, round}
+use Rattle.dm_layout.proofs.Names.{IsWidened, nat_le}
 use Rattle.std.proofs.Math.Nat.{add-mul-div_left, add-mul-mod_self_left}
-use Rattle.dm_place.specs.Placement.{lowered_cell}
 use Rattle.dm_place.specs.Holding.{number_of, word_at}
 use Rattle.dm_place.proofs.Exported.{sum_of_digits}
 use Rattle.dm_layout.proofs.symbols.SlotRows.{corner_slot_is}
@@ -48,6 +47,10 @@ cell_by R C r c up left t u v =
       ]
       | false ↦ elim v [ true ↦ At (r + 4 - (up + (C + 4) % 8)) (c + C - left) | false ↦ At (r - up) (c - left) ]
     ]
+
+-- A cell below the matrix is wrapped round the bottom edge.
+abbrev pub lowered_cell : ℕ → Cell → Cell
+lowered_cell R x = elim (nat_le R x.row) [ true ↦ At (x.row - R) x.column | false ↦ x ]
 
 -- It lies in the row that begins anew.
 pub lowered_row : (R : ℕ) (x : Cell) → (lowered_cell R x).row ≡ round R x.row
@@ -114,9 +117,9 @@ module _ (R C : ℕ) (look : ℕ → ℕ → Bool) (rows : List ℕ) (some : 6 �
       summed x1 x2 x3 x4 x5 x6 x7 x8 d1 d2 d3 d4 d5 d6 d7 d8 p1 p2 p3 p4 p5 p6 p7 p8 = omega arith
 
   -- The byte of an anchor, with its bits in the opposite order, is the codeword of the anchor's standard shape.
-  standard_word : (r c x : ℕ) → r < R → c < C → (5 * r + c) % 8 ≡ 4 → CellsInside R C (standard R C r c) →
+  standard_word : (r c x : ℕ) → r < R → c < C → (5 * r + c) % 8 ≡ 4 → CellsInside R C (cells_of R C (Standard r c)) →
       IsJoined C rows r x →
-      reversed_bits (x / 2 ^ (8 * (c / 8)) % 256) ≡ word_at look (standard R C r c)
+      reversed_bits (x / 2 ^ (8 * (c / 8)) % 256) ≡ word_at look (cells_of R C (Standard r c))
   standard_word r c x lr lc anchor inside slots =
       let k : ℕ = c / 8 in
       let lk : 8 * k < C = omega (arith, lc) in
@@ -169,7 +172,7 @@ module _ (R C : ℕ) (look : ℕ → ℕ → Bool) (rows : List ℕ) (some : 6 �
         let lc = ltb-true c C here.1 in
         ap reversed_bits (in_row r (c / 8) (omega (arith, lc, room)))
         ∙ standard_word r c (get_or news r 0) lr lc (eqb-true ((5 * r + c) % 8) 4 kind.1)
-        (cells_inside R C (standard R C r c) both.1) (slots.anchors r lr)
+        (cells_inside R C (cells_of R C (Standard r c)) both.1) (slots.anchors r lr)
     shape_word Corner1 fits =
         let both = and_parts (kind_test R C Corner1) (inside_test R C (cells_of R C Corner1)) fits in
         let kind = and_parts (nat_eq (R % 8) 4) (nat_eq (C % 8) 4) both.0 in

@@ -1,6 +1,5 @@
 -- The modules of a symbol, each dark or light (ISO/IEC 16022, symbol structure).
-use Rattle.std.specs.Prelude.{◌≡◌, ℕ, ◌+◌, ◌*◌, ◌/◌, ◌%◌, ◌^◌, Bool, false, not, nat_eq, List, [], map, length, get_or}
-use Rattle.std.specs.Prelude.{All}
+use Rattle.std.specs.Prelude.{◌≡◌, ℕ, ◌+◌, ◌*◌, ◌/◌, ◌%◌, ◌^◌, Bool, false, nat_eq, List, [], map, length, get_or, All}
 use Rattle.std.specs.List.{range_with_len}
 use Rattle.dm_layout.specs.symbols.Sizes.{SizeEntry, IsSize}
 
@@ -26,11 +25,9 @@ rows_by rows columns colour = map (λ row. map (colour row) (range_with_len 0 co
 
 -- These are the rows of modules that are listed row by row from the top.
 abbrev pub rows_of : ℕ → ℕ → List Bool → List (List Bool)
-rows_of rows columns list = rows_by rows columns (λ row column. get_or list (row * columns + column) false)
-
--- Where a number is given for each module, any number but 0 stands for a dark one.
-abbrev pub is_dark_number : ℕ → Bool
-is_dark_number number = not (nat_eq number 0)
+rows_of rows columns list =
+    map (λ row. map (λ column. get_or list (row * columns + column) false) (range_with_len 0 columns))
+    (range_with_len 0 rows)
 
 -- In a row that is written as a number, the module of a column, counted from 0 at the left, is the bit of weight
 -- 2^column; 1 is dark.

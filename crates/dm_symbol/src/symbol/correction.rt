@@ -5,9 +5,10 @@ ghost use Rattle.std.specs.Prelude.{MatchResult, length, map, option_map};
 ghost use Rattle.dm_code.specs.Codeword.{IsCodeword, IsNear, distance};
 ghost use Rattle.dm_layout.specs.symbols.Sizes.{block_check, block_length, codeword_count};
 ghost use Rattle.dm_symbol.specs.Dealings.{IsDealtTwoWays, erased_by};
-ghost use Rattle.dm_symbol.specs.SymbolBlocks.{AreOfSize, block_in};
+ghost use Rattle.dm_symbol.specs.SymbolBlocks.{AreOfSize};
 ghost use Rattle.dm_symbol.specs.SymbolReading.{IsBlockRestored};
 ghost use Rattle.dm_symbol.specs.inner.Marks.{is_mark, marked_in};
+ghost use Rattle.dm_layout.specs.symbols.Blocks.{block_of};
 
 use crate::symbol::dealing::{DATA, Dealing, turn_checks};
 use crate::symbol::reading::BlockReading;
@@ -29,10 +30,10 @@ pub(crate) fn restore_block(
     requires block { b < size.blocks }
     ensures words { AreOfSize size words.new }
     ensures restored { IsBlockRestored (block_check size)
-        (marked_in size (option_map (λ m. m.now) marks.entry) b) (block_in size words.old b)
-        (block_in size words.new b) result }
+        (marked_in size (option_map (λ m. m.now) marks.entry) b) (block_of size.blocks b words.old)
+        (block_of size.blocks b words.new) result }
     ensures others { (a : ℕ) → a < size.blocks → a ≢ b
-        → block_in size words.new a ≡ block_in size words.old a }
+        → block_of size.blocks a words.new ≡ block_of size.blocks a words.old }
 {
     match marks {
         None => correct_block(size, words, b),
@@ -45,10 +46,10 @@ fn correct_block(size: SymbolSize, words: &mut [u8], b: usize) -> Option<BlockRe
     requires words { AreOfSize size words.old }
     requires block { b < size.blocks }
     ensures words { AreOfSize size words.new }
-    ensures restored { IsBlockRestored (block_check size) [] (block_in size words.old b)
-        (block_in size words.new b) result }
+    ensures restored { IsBlockRestored (block_check size) [] (block_of size.blocks b words.old)
+        (block_of size.blocks b words.new) result }
     ensures others { (a : ℕ) → a < size.blocks → a ≢ b
-        → block_in size words.new a ≡ block_in size words.old a }
+        → block_of size.blocks a words.new ≡ block_of size.blocks a words.old }
 {
     let checks = size.block_check() as u8;
     let mut fixed = ArrayVec::new();
@@ -77,13 +78,13 @@ fn codeword_near(
     requires block { b < size.blocks }
     ensures near { MatchResult result
         (λ changed. changed ≢ 0
-        → IsNear (block_check size) (block_in size words.now b) fixed.new.items)
+        → IsNear (block_check size) (block_of size.blocks b words.now) fixed.new.items)
         (λ _. (codeword : List ℕ)
-        → IsNear (block_check size) (block_in size words.now b) codeword → ⊥) }
+        → IsNear (block_check size) (block_of size.blocks b words.now) codeword → ⊥) }
     ensures changed { IfOk result (λ changed. changed ≢ 0
-        → changed ≡ distance (block_in size words.now b) fixed.new.items) }
+        → changed ≡ distance (block_of size.blocks b words.now) fixed.new.items) }
     ensures itself { result ≡ Ok 0
-        → IsCodeword (block_check size) (block_in size words.now b) }
+        → IsCodeword (block_check size) (block_of size.blocks b words.now) }
     ensures few { IfOk result (λ changed. 2 * changed ≤ block_check size) }
 {
     let checks = usize::from(size.block_check());
@@ -105,9 +106,9 @@ fn correct_marked(
     requires block { b < size.blocks }
     ensures words { AreOfSize size words.new }
     ensures restored { IsBlockRestored (block_check size) (marked_in size (Some marks.now) b)
-        (block_in size words.old b) (block_in size words.new b) result }
+        (block_of size.blocks b words.old) (block_of size.blocks b words.new) result }
     ensures others { (a : ℕ) → a < size.blocks → a ≢ b
-        → block_in size words.new a ≡ block_in size words.old a }
+        → block_of size.blocks a words.new ≡ block_of size.blocks a words.old }
 {
     let checks = usize::from(size.block_check());
     let erased = marked_places(size, marks, b);
@@ -126,7 +127,7 @@ fn correct_marked(
 fn marked_places(size: SymbolSize, marks: &[u8], b: usize) -> ArrayVec<bool, LONGEST_BLOCK>
     requires marks { AreOfSize size marks.now }
     requires block { b < size.blocks }
-    ensures value { result.items ≡ map is_mark (block_in size marks.now b) }
+    ensures value { result.items ≡ map is_mark (block_of size.blocks b marks.now) }
     ensures length { length result.items ≡ block_length size b }
 {
     let words = block(size, marks, b);

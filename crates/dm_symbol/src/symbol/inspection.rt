@@ -1,12 +1,11 @@
 //! Inspection of a symbol of any size: its codewords before and after they are restored, whether it can be read or not.
 
-ghost use Rattle.std.specs.Prelude.{◌≡◌, ◌≤◌, List, [], IfSome, IsTrue, IsFalse, Some, length, map, option_map};
-ghost use Rattle.std.specs.Prelude.{ℕ, replicate};
+ghost use Rattle.std.specs.Prelude.{◌≡◌, ◌≤◌, List, [], IfSome, IsTrue, IsFalse, Some, length, map, option_map, ℕ};
+ghost use Rattle.std.specs.Prelude.{replicate};
 ghost use Rattle.dm_layout.specs.symbols.Sizes.{codeword_count};
 ghost use Rattle.dm_layout.specs.symbols.Holding.{Holds};
 ghost use Rattle.dm_layout.specs.symbols.Words.{first_words};
-ghost use Rattle.dm_symbol.specs.Dealings.{IsDealtTwoWays};
-ghost use Rattle.dm_symbol.specs.Doubt.{erased_in};
+ghost use Rattle.dm_symbol.specs.Dealings.{IsDealtTwoWays, erased_by};
 ghost use Rattle.dm_symbol.specs.SymbolBlocks.{AreOfSize, words_with};
 ghost use Rattle.dm_symbol.specs.SymbolReading.{AreBlocksMended, AreRestoredBy};
 ghost use Rattle.dm_symbol.specs.SymbolInspection.{IsSymbolInspection};
@@ -209,7 +208,7 @@ fn mend_blocks(
     ensures words { AreOfSize size words.new }
     ensures count { length blocks.new.items ≡ size.blocks }
     ensures mended { AreBlocksMended size
-        (erased_in size (option_map (λ d. d.now) doubtful.entry)) words.old words.new
+        (erased_by Dealing.Standard size (option_map (λ d. d.now) doubtful.entry)) words.old words.new
         blocks.new.items }
 {
     match doubtful {
@@ -231,8 +230,8 @@ fn mend_doubtful(
     requires doubtful { doubtful.now.size ≡ size }
     ensures words { AreOfSize size words.new }
     ensures count { length blocks.new.items ≡ size.blocks }
-    ensures mended { AreBlocksMended size (erased_in size (Some doubtful.now)) words.old words.new
-        blocks.new.items }
+    ensures mended { AreBlocksMended size (erased_by Dealing.Standard size (Some doubtful.now))
+        words.old words.new blocks.new.items }
 {
     let mut room = [0; MOST_CODEWORDS];
     let marks = &mut room[..words.len()];

@@ -4,7 +4,8 @@ ghost use Rattle.std.specs.Prelude.{◌≡◌, ◌≢◌, ◌<◌, ◌≤◌, �
 ghost use Rattle.dm_code.specs.Codeword.{IsCodeword};
 ghost use Rattle.dm_layout.specs.symbols.Sizes.{block_check, codeword_count};
 ghost use Rattle.dm_layout.specs.symbols.Words.{first_words};
-ghost use Rattle.dm_symbol.specs.SymbolBlocks.{AreOfSize, AreCodewordsOf, block_in, first_data};
+ghost use Rattle.dm_symbol.specs.SymbolBlocks.{AreOfSize, AreCodewordsOf, first_data};
+ghost use Rattle.dm_layout.specs.symbols.Blocks.{block_of};
 
 use dm_code::encode;
 use dm_layout::symbols::{SymbolSize, SymbolWordsIn, block, put_block_checks};
@@ -72,9 +73,9 @@ fn complete_block(size: SymbolSize, words: &mut [u8], b: usize)
     requires block { b < size.blocks }
     ensures words { AreOfSize size words.new }
     ensures data_words { first_data size words.new ≡ first_data size words.old }
-    ensures checked { IsCodeword (block_check size) (block_in size words.new b) }
+    ensures checked { IsCodeword (block_check size) (block_of size.blocks b words.new) }
     ensures others { (a : ℕ) → a < size.blocks → a ≢ b
-        → block_in size words.new a ≡ block_in size words.old a }
+        → block_of size.blocks a words.new ≡ block_of size.blocks a words.old }
 {
     let mut list = block(size, words, b);
     list.truncate(usize::from(size.block_data(b)));

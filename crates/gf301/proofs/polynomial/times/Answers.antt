@@ -1,6 +1,6 @@
 use Rattle.std.proofs.Common.{◌≡◌, ◌+◌, ◌-◌, ◌++◌, ◌∷◌, [], suc, length, sym, ap, ◌∙◌, arith, zero-add}
-use Rattle.gf301.specs.Polynomial.{coefficient, convolution, values_from, times}
-use Rattle.gf301.proofs.PolyLaws.{length-values_from, values_from_push}
+use Rattle.gf301.specs.Polynomial.{coefficient, convolution, values_from}
+use Rattle.gf301.proofs.PolyLaws.{length-values_from, times_values, values_from_push}
 use Rattle.gf301.proofs.polynomial.times.Goals as goal
 
 pub loop-place-init : goal.loop-place-init
@@ -21,8 +21,8 @@ loop-place-preserved c =
     ∙ sym (values_from_push f 0 n) ∙ ap (values_from f 0) (let e : suc n ≡ n + 1 = omega arith in e)
 
 pub returns : goal.returns
-unfolding times
 returns c =
     c.loop-place.invariant
     ∙ ap (values_from (convolution (coefficient c.args.p.now) (coefficient c.args.q.now)) 0)
     (let e : c.loop-place.place ≡ length c.args.p.now + length c.args.q.now - 1 = omega arith in e)
+    ∙ sym (times_values c.args.p.now c.args.q.now)

@@ -1,4 +1,4 @@
-use Rattle.dm_symbol.proofs.Names.{◌≤◌, ◌<◌, ◌≡◌, ◌∙◌, length, ap, sym, arith, block_check, block_in}
+use Rattle.dm_symbol.proofs.Names.{◌≤◌, ◌<◌, ◌≡◌, ◌∙◌, length, ap, sym, arith, block_check, block_of}
 use Rattle.dm_symbol.proofs.Distances.{few_found}
 use Rattle.dm_symbol.proofs.SymbolBelow.{block_facts, only_block, only_short}
 use Rattle.dm_symbol.proofs.symbol.correction.codeword_near.Goals as goal
@@ -6,7 +6,7 @@ use Rattle.dm_symbol.proofs.symbol.correction.codeword_near.Goals.{Then-blocks-e
 
 -- What is handed to the correction is the block, with its check codewords, where it is the only one.
 only : (c : Then-blocks-eq1) → (c.from-checks.result ≡ block_check c.args.size)
-    × (c.args.words.now ≡ block_in c.args.size c.args.words.now c.args.b)
+    × (c.args.words.now ≡ block_of c.args.size.blocks c.args.b c.args.words.now)
     × (length c.args.words.now ≤ 255) × (block_check c.args.size < length c.args.words.now)
 only c =
     let one : c.args.size.blocks ≡ 1 = omega (arith, c.blocks-2.ensures.value, c.if-blocks-eq1.true) in
@@ -47,5 +47,5 @@ returns-then-blocks-eq1 c =
       changed = changed;
       itself = rw (o.0, o.1) at c.correct_to.ensures.itself.0;
       few = few_found c.correct_to.result c.correct_to.new.fixed.items (block_check c.args.size)
-          (block_in c.args.size c.args.words.now c.args.b) near changed;
+          (block_of c.args.size.blocks c.args.b c.args.words.now) near changed;
     }

@@ -1,5 +1,5 @@
-use Rattle.dm_symbol.proofs.Names.{near_but_none, length_of_block, words_with, ◌≢◌, ◌∙◌, length, refl, ap, arith}
-use Rattle.dm_symbol.proofs.Names.{Ok, block_check, block_in}
+use Rattle.dm_symbol.proofs.Names.{near_but_none, length_of_block, words_with, ◌≢◌, ◌∙◌, length, refl, ap, arith, Ok}
+use Rattle.dm_symbol.proofs.Names.{block_check, block_of}
 use Rattle.dm_symbol.proofs.Distances.{IsPut, put_if}
 use Rattle.dm_symbol.proofs.SymbolSteps.{plain_restored}
 use Rattle.dm_symbol.proofs.symbol.correction.correct_block.Goals as goal
@@ -7,8 +7,8 @@ use Rattle.dm_symbol.proofs.symbol.correction.correct_block.Goals.{then-changed-
 
 pub returns-in_default-clause-restored : goal.returns-in_default-clause-restored
 returns-in_default-clause-restored c = (
-  λ n. c.in_default.ensures.near n.0 (near_but_none (block_check c.args.size)
-      (block_in c.args.size c.args.words.now c.args.b) n.0 n.1),
+  λ other near. c.in_default.ensures.near other (near_but_none (block_check c.args.size)
+      (block_of c.args.size.blocks c.args.b c.args.words.now) other near),
   refl,
 )
 
@@ -30,20 +30,20 @@ pub returns-clause-restored : goal.returns-clause-restored
 returns-clause-restored c =
     let s = c.args.size in
     let k = block_check s in
-    let held = block_in s c.args.words.now c.args.b in
+    let held = block_of s.blocks c.args.b c.args.words.now in
     let n = c.in-Ok.changed in
     let found = c.codeword_near.new.fixed.items in
-    let after = block_in s c.if-changed-gt0.words c.args.b in
+    let after = block_of s.blocks c.args.b c.if-changed-gt0.words in
     let put : IsPut k n held after =
     put_if k n held found after c.in-Ok.ensures.near c.in-Ok.ensures.changed
     (λ e. c.codeword_near.ensures.itself (c.in-Ok.is ∙ ap (λ m. Ok m) e))
     (λ some. elim c.if-changed-gt0.branch [
-      | then-changed-gt0 x ↦ ap (λ v. block_in s v c.args.b) x.words-is ∙ x.put_block.ensures.put ∙ x.deref.ensures.0
+      | then-changed-gt0 x ↦ ap (block_of s.blocks c.args.b) x.words-is ∙ x.put_block.ensures.put ∙ x.deref.ensures.0
       | else-changed-gt0 x ↦ absurd (some (omega (arith, x.if-changed-gt0.false)))
     ])
     (λ none. elim c.if-changed-gt0.branch [
       | then-changed-gt0 x ↦ absurd (omega (arith, none, x.if-changed-gt0.true))
-      | else-changed-gt0 x ↦ ap (λ v. block_in s v c.args.b) x.words-is
+      | else-changed-gt0 x ↦ ap (block_of s.blocks c.args.b) x.words-is
     ]) in
     plain_restored k c.block_check-checks.result n held after after put.near put.counted
     c.block_check-checks.ensures.value refl

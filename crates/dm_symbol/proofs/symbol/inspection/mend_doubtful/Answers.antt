@@ -1,4 +1,5 @@
-use Rattle.dm_symbol.proofs.Names.{◌≡◌, ◌<◌, ◌∙◌, ℕ, Some, ap, subst, sym, codeword_count, erased_in, marked_in}
+use Rattle.dm_symbol.proofs.Names.{◌≡◌, ◌<◌, ◌∙◌, ℕ, Some, ap, subst, sym, codeword_count, marked_in, erased_by}
+use Rattle.dm_symbol.proofs.Names.{Standard}
 use Rattle.dm_symbol.proofs.SymbolBelow.{few_words, room_for}
 use Rattle.dm_symbol.proofs.SymbolSteps.{mended_moves}
 use Rattle.dm_symbol.proofs.symbol.inspection.mend_doubtful.Goals as goal
@@ -18,8 +19,8 @@ pub returns-clause-mended : goal.returns-clause-mended
 returns-clause-mended c =
     let s = c.args.size in
     let d = c.args.doubtful.now in
-    let same : (b : ℕ) → b < s.blocks → marked_in s (Some c.mark.new.marks) b ≡ erased_in s (Some d) b =
-    λ b hb. subst (λ z. marked_in z (Some c.mark.new.marks) b ≡ erased_in z (Some d) b) c.requires.doubtful
+    let same : (b : ℕ) → b < s.blocks → marked_in s (Some c.mark.new.marks) b ≡ erased_by Standard s (Some d) b =
+    λ b hb. subst (λ z. marked_in z (Some c.mark.new.marks) b ≡ erased_by Standard z (Some d) b) c.requires.doubtful
     (c.mark.ensures.marks b) in
-    mended_moves s (marked_in s (Some c.mark.new.marks)) (erased_in s (Some d)) same c.args.words.now
+    mended_moves s (marked_in s (Some c.mark.new.marks)) (erased_by Standard s (Some d)) same c.args.words.now
     c.mend_each.new.words c.mend_each.new.blocks.items c.mend_each.ensures.mended

@@ -1,6 +1,6 @@
 use Rattle.dm_symbol.proofs.Names.{◌≡◌, ◌≢◌, ◌<◌, ◌∙◌, ℕ, List, length, ap, below_more, arith, Some, option_map}
-use Rattle.dm_symbol.proofs.Names.{length_push, IsNearBut, block_check, block_in, IsBlockRestored, block_reading}
-use Rattle.dm_symbol.proofs.Names.{marked_in}
+use Rattle.dm_symbol.proofs.Names.{length_push, IsNearBut, block_check, IsBlockRestored, block_reading, marked_in}
+use Rattle.dm_symbol.proofs.Names.{block_of}
 use Rattle.std.proofs.lemmas.List.FromFn.{fill_by_all}
 use Rattle.dm_symbol.proofs.SymbolSteps.{nothing_said, said_more}
 use Rattle.dm_symbol.proofs.symbol.reading.restore_each.Goals as goal
@@ -20,21 +20,24 @@ loop-b-preserved c =
     let r = c.in-Some.restored in
     let erased = marked_in s (option_map (λ m. m.now) c.args.marks) in
     let within = inside (goal.at.loop-b-preserved c).After-from in
-    let others : (a : ℕ) → a < s.blocks → a ≢ b → block_in s after a ≡ block_in s before a =
+    let others : (a : ℕ) → a < s.blocks → a ≢ b → block_of s.blocks a after ≡ block_of s.blocks a before =
     rw c.from.ensures at c.in-Some.ensures.others in
-    let now : IsBlockRestored (block_check s) (erased b) (block_in s c.args.words.now b) (block_in s after b) (Some r) =
+    let now : IsBlockRestored (block_check s) (erased b) (block_of s.blocks b c.args.words.now)
+    (block_of s.blocks b after) (Some r) =
     rw (c.from.ensures, i.later b (omega arith) within) at c.in-Some.ensures.restored in
-    let stay : (a : ℕ) → a < b → block_in s after a ≡ block_in s before a =
+    let stay : (a : ℕ) → a < b → block_of s.blocks a after ≡ block_of s.blocks a before =
     λ a l. others a (omega (arith, within)) (omega arith) in
-    let of = λ (a : ℕ) (x : List ℕ). block_reading (block_check s) (erased a) (block_in s c.args.words.now a) x in
+    let of = λ (a : ℕ) (x : List ℕ).
+    block_reading (block_check s) (erased a) (block_of s.blocks a c.args.words.now) x in
     record {
       words = c.in-Some.ensures.words;
       count = omega (arith, ap length c.push.ensures.items, i.count, length_push c.loop-b.blocks.items r);
       said = rw c.push.ensures.items
-          (said_more of (block_in s before) (block_in s after) c.loop-b.blocks.items nothing_said b r i.count i.said
+          (said_more of (λ a. block_of s.blocks a before) (λ a. block_of s.blocks a after) c.loop-b.blocks.items
+          nothing_said b r i.count i.said
           stay now.1);
-      near = below_more (λ a. IsNearBut (block_check s) (block_in s c.args.words.now a) (erased a)
-          (block_in s after a)) b
+      near = below_more (λ a. IsNearBut (block_check s) (block_of s.blocks a c.args.words.now) (erased a)
+          (block_of s.blocks a after)) b
           (λ a l. rw (stay a l) (i.near a l)) now.0;
       later = λ a l h. others a h (omega arith) ∙ i.later a (omega arith) h;
     }
@@ -46,7 +49,7 @@ returns-in-None-clause-lost c =
     record {
       in_symbol = within;
       lost = rw (c.from.ensures, i.later c.loop-b.b (omega arith) within) at c.in-None.ensures.restored.0;
-      first = λ a ha. (block_in c.args.size c.loop-b.words a, i.near a ha);
+      first = λ a ha. (block_of c.args.size.blocks a c.loop-b.words, i.near a ha);
     }
 
 pub returns-clause-near : goal.returns-clause-near
@@ -59,6 +62,6 @@ returns-clause-readings c =
     let erased = marked_in s (option_map (λ m. m.now) c.args.marks) in
     let end : c.loop-b.b ≡ s.blocks =
     omega (arith, c.loop-b-test.false, c.loop-b.auto.b-end, c.blocks-b-end.ensures.value) in
-    fill_by_all (λ a. block_reading (block_check s) (erased a) (block_in s c.args.words.now a)
-    (block_in s c.loop-b.words a)) c.loop-b.blocks.items s.blocks nothing_said (c.loop-b.invariant.count ∙ end)
+    fill_by_all (λ a. block_reading (block_check s) (erased a) (block_of s.blocks a c.args.words.now)
+    (block_of s.blocks a c.loop-b.words)) c.loop-b.blocks.items s.blocks nothing_said (c.loop-b.invariant.count ∙ end)
     (λ a ha. c.loop-b.invariant.said a (omega (arith, ha, end)))

@@ -1,5 +1,5 @@
 use Rattle.dm_symbol.proofs.Names.{◌≡◌, ◌<◌, ◌≤◌, ℕ, length, get_or, option_map, IsNearBut, block_check, AreOfSize}
-use Rattle.dm_symbol.proofs.Names.{block_in, block_reading, marked_in}
+use Rattle.dm_symbol.proofs.Names.{block_reading, marked_in, block_of}
 use Rattle.dm_symbol.proofs.SymbolSteps.{nothing_said}
 use Rattle.dm_symbol.proofs.symbol.reading.restore_each.Given as goal
 
@@ -8,8 +8,8 @@ abbrev pub invariant-loop-b : goal.invariant-loop-b
 invariant-loop-b l =
     let s = l.size in
     let erased = marked_in s (option_map (λ m. m.now) l.fn.marks) in
-    let old = block_in s l.initial.words in
-    let now = block_in s l.words in
+    let old = λ (b : ℕ). block_of s.blocks b l.initial.words in
+    let now = λ (b : ℕ). block_of s.blocks b l.words in
     record {
       words : AreOfSize s l.words;
       count : length l.blocks.items ≡ l.b;

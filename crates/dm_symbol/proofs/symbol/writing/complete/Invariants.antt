@@ -1,4 +1,4 @@
-use Rattle.dm_symbol.proofs.Names.{◌≡◌, ◌<◌, ℕ, IsCodeword, block_check, AreOfSize, block_in, first_data}
+use Rattle.dm_symbol.proofs.Names.{◌≡◌, ◌<◌, ℕ, IsCodeword, block_check, AreOfSize, first_data, block_of}
 use Rattle.dm_symbol.proofs.symbol.writing.complete.Given as goal
 
 -- The blocks before b are codewords of their Reed-Solomon code.
@@ -6,5 +6,5 @@ abbrev pub invariant-loop-b : goal.invariant-loop-b
 invariant-loop-b l = record {
   words : AreOfSize l.size l.words;
   data_words : first_data l.size l.words ≡ first_data l.size l.initial.words;
-  checked : (a : ℕ) → a < l.b → IsCodeword (block_check l.size) (block_in l.size l.words a);
+  checked : (a : ℕ) → a < l.b → IsCodeword (block_check l.size) (block_of l.size.blocks a l.words);
 }

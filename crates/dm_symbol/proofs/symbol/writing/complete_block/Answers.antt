@@ -1,4 +1,4 @@
-use Rattle.dm_symbol.proofs.Names.{◌∙◌, ◌++◌, ap, take, block_data, block_in}
+use Rattle.dm_symbol.proofs.Names.{◌∙◌, ◌++◌, ap, take, block_data, block_of}
 use Rattle.dm_symbol.proofs.SymbolWriteSteps.{checks_keep_data}
 use Rattle.dm_symbol.proofs.symbol.writing.complete_block.Goals as goal
 
@@ -9,5 +9,5 @@ returns-clause-data_words c =
     checks_keep_data s w c.put_block_checks.new.words c.encode-checks.result.items c.args.b c.requires.words
     c.put_block_checks.ensures.words c.requires.block
     (c.put_block_checks.ensures.put
-    ∙ ap (λ xs. take (block_data s c.args.b) (block_in s w c.args.b) ++ xs) c.deref-2.ensures.0)
+    ∙ ap (λ xs. take (block_data s c.args.b) (block_of s.blocks c.args.b w) ++ xs) c.deref-2.ensures.0)
     c.put_block_checks.ensures.others
