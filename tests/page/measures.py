@@ -1,5 +1,5 @@
 """What the page reads of pictures and how soon it answers, beside native dm_sample in the same run, for docs/PAGE.md:
-pictures of bench/photographs, by seeds of their own; and some of 12 megapixels, as a phone takes them, which are made
+pictures of bench/photographs, by seeds of their own; and some as phones and cameras take them, which are made
 here. Each takes the usual work, so that what is read doesn't depend on what else the machine does. Times are in
 milliseconds: of a processor, of all that the browser's processes and dm_sample take until the first answer is on the
 screen, and of that what its worker takes, in which pictures are opened and searched; and by the clock."""
@@ -22,8 +22,8 @@ from tests.support import places
 
 PAGE = places.path("web", "out", "mitsubadoor.html")
 SAMPLER = places.path("sampler", "out", "dm_sample")
-SEED, SHARE = "page", 8
-PHONES, LENGTHS = 20, (3, 8, 16, 30, 60, 110, 190)  # pictures, and letters of their messages
+SEED, SHARE = "page", 24
+PHONES, LENGTHS = 180, (3, 8, 16, 30, 60, 110, 190, 5)  # pictures, and letters of their messages
 STARTS, KEYS = 12, 30
 SIDES = {16: 12, 52: 200, 104: 810}  # of a symbol, and how many letters make one
 # Seconds after which nothing is drawn of an answer any more, and after which what was entered is kept and linked too.
@@ -79,14 +79,14 @@ def median(times):
 
 
 def phone_set():
-    """Pictures of 12 megapixels: a label on a table, turned, with a symbol of side 10 to 52, text and bars."""
+    """Pictures of 0.3 to 12 megapixels: a label on a table, turned, with a symbol of side 10 to 52, text and bars."""
     folder, chance = on.folder / "phone", random.Random("phones")
     folder.mkdir()
     letters = lambda count: "".join(chance.choice("ABCDEFGHIJKLMNOPQRSTUVWXYZ0123456789") for _ in range(count))
     texts = [letters(LENGTHS[k % len(LENGTHS)]) for k in range(PHONES)]
     (folder / "lines.json").write_text(json.dumps([written(text).split("\n") for text in texts]))
     subprocess.run([DEBIANS, places.path("tests", "page", "phones.py"), folder], check=True)
-    return folder, [{"file": f"phone-{k:02d}.jpg", "messages": [text]} for k, text in enumerate(texts)]
+    return folder, [{"file": f"phone-{k:03d}.jpg", "messages": [text]} for k, text in enumerate(texts)]
 
 
 # ---- One picture
@@ -162,8 +162,8 @@ def of_set(name, folder, pictures):
     for what, pairs in times.items():
         (ours, theirs), ratio = zip(*pairs), statistics.median(one / other for one, other in pairs)
         print(f"  to the first answer, {what}: at the median {median(ours)}, on average "
-              f"{round(statistics.mean(ours))}; natively {median(theirs)}, {round(statistics.mean(theirs))}; "
-              f"ratio {ratio:.2f}", flush=True)
+              f"{round(statistics.mean(ours))}; natively {median(theirs)}, {round(statistics.mean(theirs))}; ratio "
+              f"{statistics.median(ours) / statistics.median(theirs):.2f}, of each picture's {ratio:.2f}", flush=True)
 
 
 # ---- Starts and keys
@@ -206,5 +206,5 @@ def measured():
     run(BRING)
     kinds = {"photographs": [], "hard ones": ["--hard"]}
     sets = {name: made(name, SHARE, "--seed", SEED, *kind) for name, kind in kinds.items()}
-    for name, (folder, pictures) in (*sets.items(), ("12 megapixels", phone_set())):
+    for name, (folder, pictures) in (*sets.items(), ("of phones and cameras", phone_set())):
         of_set(name, folder, pictures)

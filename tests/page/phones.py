@@ -1,6 +1,6 @@
-"""Makes pictures of 12 megapixels as a phone takes them, always the same: phones.py FOLDER, which has lines.json, a
-list of grids as rows of 0 and 1. Each stands on a label with text and bars, which lies on a table, turned, and somewhat
-out of focus. Needs Debian's python3-opencv and python3-numpy."""
+"""Makes pictures of 0.3 to 12 megapixels as phones and cameras take them, always the same: phones.py FOLDER, which has
+lines.json, a list of grids as rows of 0 and 1. Each stands on a label with text and bars, which lies on a table,
+turned, and somewhat out of focus. Needs Debian's python3-opencv and python3-numpy."""
 import json
 import math
 import pathlib
@@ -14,12 +14,15 @@ WIDE, HIGH = 4000, 3000
 LABEL = (1700, 1100)
 MODULES = (8, 28)  # pixels
 MOST_SYMBOL = 900  # pixels
+# The widths that pictures have in turn, and the least pixels of a module then.
+WIDTHS, LEAST = (4000, 640, 4000, 3264, 4000, 1280, 4000), 3
 
 
-def label_of(rows, chance):
+def label_of(rows, chance, width):
     """A label with a symbol, text beside it and bars below."""
     label = numpy.full((LABEL[1], LABEL[0], 3), chance.uniform(200, 245), numpy.float32)
-    module, dark = min(chance.uniform(*MODULES), MOST_SYMBOL / (len(rows) + 4)), chance.uniform(15, 60)
+    module = min(max(chance.uniform(*MODULES), LEAST * WIDE / width), MOST_SYMBOL / (len(rows) + 4))
+    dark = chance.uniform(15, 60)
     grid = numpy.array([[int(module) for module in row] for row in rows], numpy.float32)
     symbol = cv2.resize(grid, None, fx=module, fy=module, interpolation=cv2.INTER_NEAREST)[:, :, None]
     side, at = symbol.shape[0], round(90 + 2 * module)
@@ -55,19 +58,21 @@ def laid(picture, label, chance):
     return picture * (1 - inside) + cv2.warpPerspective(label, way, (WIDE, HIGH)) * inside
 
 
-def taken(picture, chance, noises):
-    """What light, lens and sensor add."""
+def taken(picture, width, chance, noises):
+    """What light, lens and a sensor of so many columns add."""
     down, right = numpy.mgrid[0:HIGH, 0:WIDE].astype(numpy.float32) / WIDE
     picture = picture * (1 + chance.uniform(-0.3, 0.3) * right + chance.uniform(-0.3, 0.3) * down)[:, :, None]
     picture = cv2.GaussianBlur(picture, (0, 0), chance.uniform(0.8, 2))
-    return picture + noises.normal(0, chance.uniform(3, 8), (HIGH, WIDE, 1))
+    picture = cv2.resize(picture, (width, width * HIGH // WIDE), interpolation=cv2.INTER_AREA)
+    return picture + noises.normal(0, chance.uniform(3, 8), (*picture.shape[:2], 1))
 
 
 def main(folder):
     for k, rows in enumerate(json.loads((folder / "lines.json").read_text())):
         chance, noises = random.Random(f"phone {k}"), numpy.random.RandomState(k)
-        picture = taken(laid(table(chance, noises), label_of(rows, chance), chance), chance, noises)
-        cv2.imwrite(str(folder / f"phone-{k:02d}.jpg"), numpy.clip(picture, 0, 255).astype(numpy.uint8),
+        width = WIDTHS[k % len(WIDTHS)]
+        picture = taken(laid(table(chance, noises), label_of(rows, chance, width), chance), width, chance, noises)
+        cv2.imwrite(str(folder / f"phone-{k:03d}.jpg"), numpy.clip(picture, 0, 255).astype(numpy.uint8),
                     [cv2.IMWRITE_JPEG_QUALITY, chance.randint(85, 95)])
 
 
