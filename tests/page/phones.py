@@ -3,6 +3,7 @@ lines.json, a list of grids as rows of 0 and 1. Each stands on a label with text
 turned, and somewhat out of focus. Needs Debian's python3-opencv and python3-numpy."""
 import json
 import math
+import multiprocessing
 import pathlib
 import random
 import sys
@@ -67,13 +68,17 @@ def taken(picture, width, chance, noises):
     return picture + noises.normal(0, chance.uniform(3, 8), (*picture.shape[:2], 1))
 
 
+def make(folder, k, rows):
+    chance, noises, width = random.Random(f"phone {k}"), numpy.random.RandomState(k), WIDTHS[k % len(WIDTHS)]
+    picture = taken(laid(table(chance, noises), label_of(rows, chance, width), chance), width, chance, noises)
+    cv2.imwrite(str(folder / f"phone-{k:03d}.jpg"), numpy.clip(picture, 0, 255).astype(numpy.uint8),
+                [cv2.IMWRITE_JPEG_QUALITY, chance.randint(85, 95)])
+
+
 def main(folder):
-    for k, rows in enumerate(json.loads((folder / "lines.json").read_text())):
-        chance, noises = random.Random(f"phone {k}"), numpy.random.RandomState(k)
-        width = WIDTHS[k % len(WIDTHS)]
-        picture = taken(laid(table(chance, noises), label_of(rows, chance, width), chance), width, chance, noises)
-        cv2.imwrite(str(folder / f"phone-{k:03d}.jpg"), numpy.clip(picture, 0, 255).astype(numpy.uint8),
-                    [cv2.IMWRITE_JPEG_QUALITY, chance.randint(85, 95)])
+    cv2.setNumThreads(1)
+    with multiprocessing.Pool() as pool:
+        pool.starmap(make, [(folder, *each) for each in enumerate(json.loads((folder / "lines.json").read_text()))], 1)
 
 
 if __name__ == "__main__":
