@@ -15,11 +15,11 @@ OWN = {"/mitsubadoor.html", "/mitsubadoor.webmanifest", "/offline.js"}
 
 
 class Handler(http.server.SimpleHTTPRequestHandler):
-    """Serves a folder, and writes down what is asked for. Nothing is answered once the server has ended, not even where
+    """Serves a folder, and writes down what is asked for. Nothing is answered while the server is away, not even where
     a browser had connected before."""
 
     def do_GET(self):
-        if not self.server.has_ended:
+        if not self.server.is_away:
             super().do_GET()
 
     def log_message(self, *_):
@@ -36,16 +36,16 @@ def folder_of_page(*beside):
 
 
 @contextlib.contextmanager
-def served(folder, port=0):
-    """Serves a folder while it is in use, at this port or any; gives the server, and the address of the page in it."""
-    server = http.server.ThreadingHTTPServer(("127.0.0.1", port), functools.partial(Handler, directory=folder))
-    server.asked, server.has_ended = [], False
+def served(folder):
+    """Serves a folder while it is in use; gives the server, and the address of the page in it."""
+    server = http.server.ThreadingHTTPServer(("127.0.0.1", 0), functools.partial(Handler, directory=folder))
+    server.asked, server.is_away = [], False
     thread = threading.Thread(target=server.serve_forever, daemon=True)
     thread.start()
     try:
         yield server, f"http://127.0.0.1:{server.server_port}/mitsubadoor.html"
     finally:
-        server.has_ended = True
+        server.is_away = True
         server.shutdown()
         server.server_close()
         thread.join()
@@ -73,14 +73,15 @@ def installed():
         expect("the manifest", (manifest["url"].rpartition("/")[2], manifest["errors"], wrong),
                ("mitsubadoor.webmanifest", [], []))
         made_and_read("with a network")
-    visit(f"{address}?shared#make", False)
-    made_and_read("without a network")
-    page.write_text(page.read_text("utf-8").replace("<title>", f"<title>{LATER}"), "utf-8")
-    with served(folder, server.server_port) as (again, _):
+        server.is_away = True
+        visit(f"{address}?shared#make", False)
+        made_and_read("without a network")
+        page.write_text(page.read_text("utf-8").replace("<title>", f"<title>{LATER}"), "utf-8")
+        server.is_away = False
         visit(f"{address}?later", False)
         made_and_read("once more")
         expect("a later page on the server", on.page.title.startswith(LATER), True)
-    expect("what is asked of the server", {*server.asked, *again.asked} - OWN, set())
+    expect("what is asked of the server", {*server.asked} - OWN, set())
     visit(address, False)
     expect("the page that came last", on.page.title.startswith(LATER), True)
     on.page.execute_async_script("""const [done] = arguments;
