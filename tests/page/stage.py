@@ -75,9 +75,10 @@ class Count:
         self.rows.append((name, got, wanted))
 
     def expect_soon(self, name, what, wanted):
-        """As `expect`, of what takes its time."""
-        wait_for(lambda: what() == wanted)
-        self.expect(name, what(), wanted)
+        """As `expect`, of what takes its time, and may be otherwise a little later, as what a camera sees."""
+        came = []
+        wait_for(lambda: came.append(what()) or came[-1] == wanted)
+        self.expect(name, came[-1], wanted)
 
 
 count = Count()
