@@ -54,7 +54,7 @@ pub fn read(grid: &Grid, border_limit: u16) -> Result<Reading, ReadFault>
 ///
 /// After `Ok`, `reading` holds what the grid says, whatever it held before. After `Border` it is as it was, and after
 /// another fault it holds some reading. One `Reading` serves any number of grids, and isn't cleared for the largest
-/// symbol; room for codewords is, for those of the largest one where the square has more than 98.
+/// symbol; room for codewords is, for those of the largest one where the square has more than 288.
 pub fn read_to(grid: &Grid, border_limit: u16, reading: &mut Reading) -> Result<(), ReadFault>
     ensures read { IsRead grid.now border_limit (outcome result reading.new) }
     ensures same { (count : ℕ) → result ≡ Err (ReadFault.Border count)

@@ -15,7 +15,7 @@ ghost use Rattle.dm_symbol.specs.inner.Showing.{IsMended};
 
 use crate::symbol::correction::{mark, restore_block};
 use crate::symbol::dealing::{Dealing, restore_restarted};
-use crate::symbol::reading::BlockReading;
+use crate::symbol::reading::{BlockReading, FEW_CODEWORDS};
 use arrayvec::ArrayVec;
 use dm_layout::symbols::{
     BorrowedSymbol, MOST_BLOCKS, MOST_CODEWORDS, SymbolIn, SymbolSize, SymbolWordsIn,
@@ -233,7 +233,32 @@ fn mend_doubtful(
     ensures mended { AreBlocksMended size (erased_by Dealing.Standard size (Some doubtful.now))
         words.old words.new blocks.new.items }
 {
-    let mut room = [0; MOST_CODEWORDS];
+    // For the proof alone: what `check_count` ensures says that the codewords are no more than the most.
+    let _checks = size.check_count();
+    if words.len() <= FEW_CODEWORDS {
+        mend_marked::<FEW_CODEWORDS>(size, words, doubtful, blocks);
+    } else {
+        mend_marked::<MOST_CODEWORDS>(size, words, doubtful, blocks);
+    }
+}
+
+/// Does so with room for so many marks.
+fn mend_marked<const ROOM: usize>(
+    size: SymbolSize,
+    words: &mut [u8],
+    doubtful: &BorrowedSymbol,
+    blocks: &mut ArrayVec<Option<BlockReading>, MOST_BLOCKS>,
+)
+    requires words { AreOfSize size words.old }
+    requires room { length words.old ≤ ROOM }
+    requires most { ROOM ≤ MOST_CODEWORDS }
+    requires doubtful { doubtful.now.size ≡ size }
+    ensures words { AreOfSize size words.new }
+    ensures count { length blocks.new.items ≡ size.blocks }
+    ensures mended { AreBlocksMended size (erased_in size (Some doubtful.now)) words.old words.new
+        blocks.new.items }
+{
+    let mut room = [0; ROOM];
     let marks = &mut room[..words.len()];
     mark(Dealing::Standard, doubtful, marks);
     mend_each(size, words, Some(marks), blocks);

@@ -22,8 +22,8 @@ use dm_layout::symbols::{
 };
 use dm_words::Extent;
 
-/// How many codewords the room has that serves for small symbols, squares up to 32 x 32 and most rectangles.
-pub(crate) const FEW_CODEWORDS: usize = 98;
+/// How many codewords the room has that serves for most symbols, squares up to 52 x 52 and all rectangles.
+pub(crate) const FEW_CODEWORDS: usize = 288;
 
 /// How a symbol is read.
 #[derive(Clone, Copy)]
