@@ -18,7 +18,7 @@ use Rattle.dm_words.proofs.Parts.{room_of, part_room}
 use Rattle.dm_words.proofs.ContentParts.{content_part_sound, as_part, no_eci}
 use Rattle.dm_words.proofs.SaidContents.{assigned}
 use Rattle.dm_words.proofs.Marks.{more_items, one_more}
-use Rattle.dm_words.proofs.EciCounts.{mark_count, taken_away, no_more_left}
+use Rattle.dm_words.proofs.EciCounts.{marks_stay, more_marks, mark_count, taken_away}
 
 -- What one part says and then others is what all of them say.
 with_extended : (l : ContentView) (s : Said) (rest : List Said) → extended (with_said l s) rest ≡ extended l (s ∷ rest)
@@ -76,8 +76,7 @@ stays most words at n old new (Items items) v room left some is =
     let marks : new.marks ≡ old.marks = ap (λ (l : ContentView). l.marks) is in
     record {
       item_room = rw message (omega (arith, v.item_room, room, length-append old.items items));
-      mark_room = rw marks (omega (arith, v.mark_room));
-      eci_left = rw marks (omega (arith, v.eci_left, left));
+      marks = rw marks (marks_stay words at (at + n) old.marks v.marks (omega arith));
       in_order =
           rw (message, marks)
           (more_items 0 (length old.items) (length (old.items ++ items)) old.marks v.in_order
@@ -89,8 +88,7 @@ stays most words at n old new (Number number) v room left some is =
     let marks : new.marks ≡ old.marks ++ m ∷ [] = ap (λ (l : ContentView). l.marks) is in
     record {
       item_room = rw message (omega (arith, v.item_room));
-      mark_room = rw marks (omega (arith, v.mark_room, room.0, length-append old.marks (m ∷ [])));
-      eci_left = rw marks (omega (arith, v.eci_left, left, length-append old.marks (m ∷ [])));
+      marks = rw marks (more_marks words at n old.marks (m ∷ []) v.marks (omega (arith, room.0)) left);
       in_order = rw (message, marks) (one_more 0 (length old.items) number old.marks v.in_order room.1);
     }
 
@@ -201,8 +199,7 @@ pub one_words_leave : (most : ℕ) (words : List ℕ) (at to : ℕ) (old new : L
     → length new + 2 * at ≤ length old + 2 * to → IsContentAt most words to (items_with marks new)
 one_words_leave most words at to old new marks v on more few = record {
   item_room = omega (arith, v.item_room, few);
-  mark_room = omega (arith, v.mark_room, on);
-  eci_left = omega (arith, v.eci_left, no_more_left at to words on);
+  marks = marks_stay words at to marks v.marks on;
   in_order = more_items 0 (length old) (length new) marks v.in_order more;
 }
 

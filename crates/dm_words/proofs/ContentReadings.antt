@@ -8,7 +8,7 @@ use Rattle.dm_words.specs.inner.ContentScan.{and_closing}
 use Rattle.dm_words.proofs.Pairs.{IsBytes}
 use Rattle.dm_words.proofs.Openings as openings
 use Rattle.dm_words.proofs.Openings.{OpeningJudged}
-use Rattle.dm_words.proofs.EciCounts.{no_more_behind}
+use Rattle.dm_words.proofs.EciCounts.{no_marks}
 use Rattle.dm_words.proofs.SaidBounds.{said_counts}
 use Rattle.dm_words.proofs.SaidContents.{said_is_content}
 use Rattle.dm_words.proofs.SpelledBounds.{room_of_two}
@@ -52,8 +52,7 @@ begins_at extent most words o before items none marks e le message empty is same
     let no_mark : marks ≡ [] = same ∙ empty in (
       record {
         item_room = rw all (omega (arith, r));
-        mark_room = rw no_mark (omega arith);
-        eci_left = rw no_mark (omega (arith, no_more_behind o.count words));
+        marks = rw no_mark (no_marks words o.count);
         in_order = rw no_mark (omega arith);
       },
       rw (all, no_mark) refl,

@@ -3,18 +3,21 @@ use Rattle.dm_words.proofs.Names.{◌≡◌, ◌≢◌, ℕ, ◌+◌, ◌*◌, �
 use Rattle.dm_words.proofs.Names.{ap, subst, ◌∙◌, append_assoc, arith, length-append, get_or, Option, Some, None}
 use Rattle.dm_words.proofs.Names.{Result, Ok, Err, append-nil, drop_at, length-drop, length-take, drop-drop}
 use Rattle.dm_words.proofs.Names.{take-append-drop, Wide, Designator, ContentFault, Mark, Opened, Piece, spelled}
-use Rattle.dm_words.proofs.Names.{whats, AreJoined, ContentView, Says, Said, Number, IsContentPart, AreContentParts}
-use Rattle.dm_words.proofs.Names.{HaveContentFault, IsOpening, AreOpened, no_head, behind, designation, designations}
+use Rattle.dm_words.proofs.Names.{whats, AreJoined, ContentView, Says, Said, Items, Number, IsContentPart}
+use Rattle.dm_words.proofs.Names.{AreContentParts, AreMarksAt, HaveContentFault, IsOpening, AreOpened, no_head, behind}
 use Rattle.dm_words.proofs.Names.{AreDesignations, of_content, of_refused, Stops, opened, mark_by, first_content_part}
-use Rattle.dm_words.proofs.Names.{content_of, nat_tests}
+use Rattle.dm_words.proofs.Names.{content_of, nat_tests, true, ◌/◌, ◌%◌, Codeword, codeword_of, Item, Byte, Takes}
+use Rattle.dm_words.proofs.Names.{first_part, is_one_word, designation, designations}
+use Rattle.dm_words.specs.declared.codeword.Codeword.TheVariants as codeword
 use Rattle.std.proofs.lemmas.List.{get_or_append_left, get_or-append-add}
 use Rattle.dm_words.specs.inner.ContentsAt.{IsDesignationTaken}
 use Rattle.dm_words.proofs.Pairs.{IsBytes, IsBytes-drop}
 use Rattle.dm_words.proofs.Pieces.{joined-last, spelled-last}
 use Rattle.dm_words.proofs.Openings as openings
 use Rattle.dm_words.proofs.Openings.{OpeningJudged}
-use Rattle.dm_words.proofs.ContentParts.{content_part_sound, content_end_sound, content_fault_sound}
+use Rattle.dm_words.proofs.ContentParts.{as_part, content_part_sound, content_end_sound, content_fault_sound, no_eci}
 use Rattle.dm_words.proofs.ContentLoops.{HasRoom, room_by}
+use Rattle.dm_words.proofs.EciCounts.{more_marks, mark_count, taken_away}
 use Rattle.dm_words.proofs.WholeContents.{reads}
 
 -- The designators of parts, and of one behind them.
@@ -41,20 +44,21 @@ none_taken words start found e = grind (arith, nat_tests)
 pub record Leaves (words : List ℕ) (start at n : ℕ) (found : List Mark) : Type 0 where
   pub in_range : at + n ≤ length words
   pub some : 0 < n
-  pub few : 2 * length found ≤ at + n
+  pub marks : AreMarksAt words (at + n) found
   pub taken : AreTaken words start (at + n) found
 
--- A designator has room behind the others.
-few_more : (at n : ℕ) (old new : List Mark) (said : Said) → HasRoom n said → 2 * length old ≤ at
-    → new ≡ old ++ designation at said → 2 * length new ≤ at + n
-few_more at n old new said h1 h2 h3 = grind (arith, append-nil, length-append)
+-- The designator of a part has room, and is its mark.
+designation_fits : (at n : ℕ) (said : Said) → HasRoom n said
+    → (2 * length (designation at said) ≤ n) × (length (designation at said) ≡ mark_count said)
+designation_fits at n (Items items) room = (omega arith, refl)
+designation_fits at n (Number number) room = (omega (arith, room.0), refl)
 
 -- A part that is taken goes on with those that were.
 pub goes_on : (words : List ℕ) (start at n : ℕ) (old new : List Mark) → IsBytes words → at ≤ length words
-    → 2 * length old ≤ at → AreTaken words start at old
+    → AreMarksAt words at old → AreTaken words start at old
     → IsDesignationTaken (Ok (Some n)) at old new (first_content_part Wide (at + 1) (drop at words))
     → Leaves words start at n new
-goes_on words start at n old new fit in_range few t took =
+goes_on words start at n old new fit in_range v t took =
     let said = took.0 in
     let fits = (content_part_sound Wide).fits at words fit in
     let r = (content_part_sound Wide).right (at + 1) (drop at words) n said fits took.1 in
@@ -65,12 +69,14 @@ goes_on words start at n old new fit in_range few t took =
     let cut : take n (drop at words) ++ drop n (drop at words) ≡ drop at words = take-append-drop n (drop at words) in
     let rest : drop n (drop at words) ≡ drop (at + n) words = drop-drop n at words in
     let place : at + 1 ≡ (start + 1) + length (spelled t.pieces) = omega (arith, t.long) in
+    let found = designation_fits at n said room in
+    let left = taken_away Wide at n words said r.0 in
     let joined = joined-last (IsContentPart Wide) (start + 1) t.pieces q (drop n (drop at words))
     (rw (sym cut) at t.joined) (rw place at r.0) in
     record {
       in_range = omega (arith, r.2, length-drop at words);
       some = r.1;
-      few = few_more at n old new said room few took.2;
+      marks = rw took.2 (more_marks words at n old (designation at said) v found.0 (omega (arith, found.1, left)));
       taken = record {
         pieces = t.pieces ++ q ∷ [];
         whole = t.whole ∙ ap (λ (l : List ℕ). spelled t.pieces ++ l) (sym cut)
@@ -118,6 +124,29 @@ fails words start at found why fit t e =
       whole = t.whole;
       faulty = rw place at (content_fault_sound Wide (at + 1) (drop at words) why (IsBytes-drop at words fit) e);
     }
+
+-- The items that a codeword says which is by itself a part.
+abbrev alone_items : Option Codeword → List Item
+alone_items (Some (codeword.Character byte)) = Byte byte ∷ []
+alone_items (Some (codeword.Digits number)) = Byte (48 + number / 10) ∷ Byte (48 + number % 10) ∷ []
+alone_items _ = []
+
+-- Such a codeword is a part.
+alone_takes : (place word : ℕ) (more : List ℕ) → is_one_word (codeword_of word) ≡ true
+    → first_part Wide place (word ∷ more) ≡ Takes 1 (alone_items (codeword_of word))
+alone_takes place word more is = grind (arith, nat_tests)
+
+-- It has no designator.
+pub passed_alone : (words : List ℕ) (at word : ℕ) (found : List Mark) → drop at words ≡ word ∷ drop (at + 1) words
+    → is_one_word (codeword_of word) ≡ true
+    → IsDesignationTaken (Ok (Some 1)) at found found (first_content_part Wide (at + 1) (drop at words))
+passed_alone words at word found here is =
+    let more = drop (at + 1) words in
+    let items = alone_items (codeword_of word) in
+    let took = alone_takes (at + 1) word more is in
+    let behind : first_content_part Wide (at + 1) (word ∷ more) ≡ Takes 1 (Items items) =
+    cc (as_part Wide (at + 1) word more (λ wide. no_eci Wide (at + 1) word 1 more items took), took) in
+    (Items items, rw here behind, sym (append-nil found))
 
 -- Behind ECI, a designator is found.
 pub designator_found : (at : ℕ) (o : Option Designator) (d : Designator) (old new : List Mark) → o ≡ Some d

@@ -1,8 +1,8 @@
 -- How many codewords are ECI, and room for the marks that they say.
-use Rattle.dm_words.proofs.Names.{◌≡◌, ℕ, ◌+◌, ◌<◌, ◌≤◌, List, [], ◌∷◌, ◌++◌, length, take, drop, ap, arith, ◌∙◌, ◌-◌}
+use Rattle.dm_words.proofs.Names.{◌≡◌, ℕ, ◌+◌, ◌*◌, ◌<◌, ◌≤◌, List, [], ◌∷◌, ◌++◌, length, take, drop, ap, arith, ◌∙◌}
 use Rattle.dm_words.proofs.Names.{Bool, get_or, drop-cons, add-one, ◌==◌, if◌then◌else◌, eqb-true, take-append-drop}
-use Rattle.dm_words.proofs.Names.{drop-drop, drop_all, Extent, eci_word, ContentView, Said, Items, Number}
-use Rattle.dm_words.proofs.Names.{IsContentPart, part, mark, IsContentAt, nat_tests}
+use Rattle.dm_words.proofs.Names.{drop-drop, drop_all, Extent, eci_word, Said, Items, Number}
+use Rattle.dm_words.proofs.Names.{IsContentPart, part, mark, AreMarksAt, Mark, nat_tests, length-append, ◌-◌}
 use Rattle.dm_words.specs.Contents.{eci_count, HasMarkRoom}
 
 -- Of words behind others each is counted once.
@@ -16,7 +16,7 @@ in_parts : (n : ℕ) (words : List ℕ) → eci_count words ≡ eci_count (take 
 in_parts n words = omega (arith, ap eci_count (take-append-drop n words), counted_apart (take n words) (drop n words))
 
 -- No more are left behind some words.
-pub no_more_behind : (n : ℕ) (words : List ℕ) → eci_count (drop n words) ≤ eci_count words
+no_more_behind : (n : ℕ) (words : List ℕ) → eci_count (drop n words) ≤ eci_count words
 no_more_behind n words = omega (arith, in_parts n words)
 
 -- ECI counts.
@@ -31,6 +31,25 @@ no_more_left at to words on =
     let there : drop n (drop at words) ≡ drop to words =
     drop-drop n at words ∙ ap (λ k. drop k words) (omega (arith, on)) in
     omega (arith, in_parts n (drop at words), ap eci_count there)
+
+-- Before the first part there is no mark.
+pub no_marks : (words : List ℕ) (at : ℕ) → AreMarksAt words at []
+no_marks words at = record { few = omega arith; eci_left = omega (arith, no_more_behind at words) }
+
+-- Parts without a mark are passed.
+pub marks_stay : (words : List ℕ) (at to : ℕ) (marks : List Mark) → AreMarksAt words at marks → at ≤ to
+    → AreMarksAt words to marks
+marks_stay words at to marks v on =
+    record { few = omega (arith, v.few, on); eci_left = omega (arith, v.eci_left, no_more_left at to words on) }
+
+-- The marks of a part stand behind the others.
+pub more_marks : (words : List ℕ) (at n : ℕ) (old more : List Mark) → AreMarksAt words at old → 2 * length more ≤ n
+    → length more + eci_count (drop (at + n) words) ≤ eci_count (drop at words)
+    → AreMarksAt words (at + n) (old ++ more)
+more_marks words at n old more v few left = record {
+  few = omega (arith, v.few, few, length-append old more);
+  eci_left = omega (arith, v.eci_left, left, length-append old more);
+}
 
 -- One mark or none is said.
 abbrev pub mark_count : Said → ℕ
@@ -48,10 +67,10 @@ taken_away extent at n words said (mark d number wide e whole is) =
     rw is (omega (arith, in_parts n (drop at words), ap eci_count (drop-drop n at words), some))
 
 -- Where ECI stands, there is room for its mark.
-pub mark_fits : (room most : ℕ) (words : List ℕ) (at : ℕ) (so_far : ContentView) → HasMarkRoom most words
-    → IsContentAt room words at so_far → at < length words → drop at words ≡ eci_word ∷ drop (at + 1) words
-    → length so_far.marks < most
-mark_fits room most words at so_far h1 h2 h3 h4 = grind (arith, eci_count, one_counts)
+pub mark_fits : (room : ℕ) (words : List ℕ) (at : ℕ) (marks : List Mark) → HasMarkRoom room words
+    → AreMarksAt words at marks → at < length words → drop at words ≡ eci_word ∷ drop (at + 1) words
+    → length marks < room
+mark_fits room words at marks h1 h2 h3 h4 = grind (arith, eci_count, one_counts)
 
 -- A word counts by whether it is ECI.
 abbrev counted : Bool → ℕ

@@ -71,7 +71,7 @@ pub use Rattle.dm_words.specs.inner.ContentScan.{macro_header, macro_trailer, op
 pub use Rattle.dm_words.specs.inner.ContentScan.{append_by, as_said, content_by, content_of, content_on, content_to}
 pub use Rattle.dm_words.specs.inner.ContentScan.{extended, first_content_part, first_designator, first_head}
 pub use Rattle.dm_words.specs.inner.ContentScan.{head_length, items_with, mark_by, moved, opened, opening_content}
-pub use Rattle.dm_words.specs.inner.ContentsAt.{HaveContentFault, IsContentAt}
+pub use Rattle.dm_words.specs.inner.ContentsAt.{AreMarksAt, HaveContentFault, IsContentAt}
 pub use Rattle.dm_words.specs.inner.CostLanes.{HasRow, least_of}
 pub use Rattle.dm_words.specs.inner.Costs.{Going, Groups, IsRightStep, IsWithin, Pairs, Row, at_end, before_words}
 pub use Rattle.dm_words.specs.inner.Costs.{begin_at, byte_before, cost_of, digit_first, going_from, going_over}

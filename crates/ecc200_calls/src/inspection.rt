@@ -2,6 +2,7 @@
 
 ghost use Rattle.std.specs.Prelude.{◌≡◌, ◌≤◌, IfSome, IsTrue, length, map, option_map};
 ghost use Rattle.dm_layout.specs.symbols.Sizes.{area, codeword_count};
+ghost use Rattle.dm_words.specs.Contents.{HasMarkRoom};
 ghost use Rattle.ecc200_calls.specs.Arrays.{over};
 ghost use Rattle.ecc200_calls.specs.Inspections.{IsInspectResult, IsInspectionGiven, corrected_shown, erased_shown};
 ghost use Rattle.ecc200_calls.specs.Inspections.{AreDesignatorsGiven, inspection_shown, left_shown, no_inspection};
@@ -12,14 +13,13 @@ ghost use Rattle.ecc200_calls.specs.inner.Rooms.{HasRoom};
 use crate::arrays::put_bytes;
 use crate::fault::Fault;
 use crate::given::{Given, check_given};
-use crate::mark::{MarkNumbers, put_marks};
+use crate::mark::{MarkNumbers, NO_MARK, put_marks};
 use crate::modules::put_modules;
 use crate::reading::dealing_number;
 use crate::room::*;
-use arrayvec::ArrayVec;
 use dm_layout::symbols::{MOST_BLOCKS, MOST_CODEWORDS, MOST_DATA, SymbolIn, SymbolSize};
-use dm_symbol::{BlockReading, LARGEST_MARKS, Mark, SymbolInspectionIn, inspect_symbol_to};
-use dm_words::{designations_to, has_eci};
+use dm_symbol::{BlockReading, SymbolInspectionIn, inspect_symbol_to};
+use dm_words::{designations_to, eci_count, has_eci};
 
 /// This is shown instead of the number of corrected codewords where a block is beyond correction.
 const BEYOND: u8 = 255;
@@ -147,7 +147,7 @@ fn show_inspection<const WORDS: usize>(
     put_bytes(&mut out.mended, inspection.mended.list());
 }
 
-/// Shows the designators of an inspected symbol.
+/// Shows the designators of an inspected symbol, in room for as many as its codewords can say.
 #[tactic(auto, using(crate::proofs::Rooms::data_few))]
 fn show_designators<const WORDS: usize>(
     out: &mut InspectionOut,
@@ -158,24 +158,28 @@ fn show_designators<const WORDS: usize>(
     let words = inspection.mended.data_part();
     if inspection.blocks.iter().any(|block| block.is_none()) {
         out.designator_count = 0;
-    } else if has_eci(words) {
-        find_designators(out, words);
-    } else {
+    } else if !has_eci(words) {
         out.designator_count = 0;
+    } else if usize::from(eci_count(words)) <= SMALL_MARKS {
+        find_designators::<SMALL_MARKS>(out, words);
+    } else {
+        find_designators::<LARGEST_MARKS>(out, words);
     }
 }
 
-/// Shows the designators among data codewords. It isn't inlined, so that it takes room on the stack only where there
-/// may be any.
+/// Shows the designators among data codewords, in room for so many. It isn't inlined, so that it takes room on the
+/// stack only where there may be any.
 #[inline(never)]
-fn find_designators(out: &mut InspectionOut, words: &[u8])
-    requires { length words.now ≤ MOST_DATA }
+fn find_designators<const MARKS: usize>(out: &mut InspectionOut, words: &[u8])
+    requires short { length words.now ≤ MOST_DATA }
+    requires room { HasMarkRoom MARKS words.now }
+    requires few_marks { MARKS ≤ LARGEST_MARKS }
     ensures { AreFoundDesignators words.now out.old out.new }
 {
-    let mut found = ArrayVec::<Mark, LARGEST_MARKS>::new();
-    designations_to(words, &mut found);
-    out.designator_count = found.len() as u16;
-    put_marks(&mut out.designators, &found);
+    let mut marks = [NO_MARK; MARKS];
+    let count = designations_to(words, &mut marks);
+    out.designator_count = count as u16;
+    put_marks(&mut out.designators, &marks[..count]);
 }
 
 /// Writes the counts that are shown of these blocks over the first ones, as a reading has them.

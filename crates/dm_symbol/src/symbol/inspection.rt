@@ -255,7 +255,7 @@ fn mend_marked<const ROOM: usize>(
     requires doubtful { doubtful.now.size ≡ size }
     ensures words { AreOfSize size words.new }
     ensures count { length blocks.new.items ≡ size.blocks }
-    ensures mended { AreBlocksMended size (erased_in size (Some doubtful.now)) words.old words.new
+    ensures mended { AreBlocksMended size (erased_by Dealing.Standard size (Some doubtful.now)) words.old words.new
         blocks.new.items }
 {
     let mut room = [0; ROOM];

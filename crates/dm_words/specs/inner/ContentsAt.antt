@@ -15,12 +15,16 @@ use Rattle.dm_words.specs.inner.Scan.Walk.{Step, Takes, Stops}
 use Rattle.dm_words.specs.inner.Scan.Results.{HasRoomAt}
 use Rattle.dm_words.specs.inner.ContentScan.{with_said}
 
+-- The marks before an index are no more than one for each two codewords there, or one for each ECI.
+pub record AreMarksAt (words : List ℕ) (at : ℕ) (marks : List Mark) : Type 0 where
+  pub few : 2 * length marks ≤ at
+  pub eci_left : length marks + eci_count (drop at words) ≤ eci_count words
+
 -- A content with room for so many items has room for what the codewords from an index on say; the marks so far are in
--- order, and no more than one for each two codewords before that index, or one for each ECI there.
+-- order, and no more than can stand before that index.
 pub record IsContentAt (room : ℕ) (words : List ℕ) (at : ℕ) (so_far : ContentView) : Type 0 where
   pub item_room : HasRoomAt room words at (length so_far.items)
-  pub mark_room : 2 * length so_far.marks ≤ at
-  pub eci_left : length so_far.marks + eci_count (drop at words) ≤ eci_count words
+  pub marks : AreMarksAt words at so_far.marks
   pub in_order : AreMarks 0 (length so_far.items) so_far.marks
 
 -- A part with the given number of words was taken, and what it says stands behind what was there; or the end was met;
@@ -56,10 +60,10 @@ pub record HaveContentFault (extent : Extent) (place : ℕ) (words : List ℕ) (
   pub whole : words ≡ spelled parts ++ after
   pub faulty : IsContentFault extent (place + length (spelled parts)) after why
 
--- The words from an index on are parts of a content up to the end, and these are their designators; or they have a
--- fault.
-abbrev pub AreDesignationsFrom : {A : Type 0} → Result A ContentFault → ℕ → List ℕ → List Mark → Type 0
-AreDesignationsFrom (Ok done) start words found =
+-- The words from an index on are parts of a content up to the end, and the first so many marks are their designators;
+-- or they have a fault.
+abbrev pub AreDesignationsFrom : Result ℕ ContentFault → ℕ → List ℕ → List Mark → Type 0
+AreDesignationsFrom (Ok count) start words marks =
     (said : List Said) × (parts : AreContentParts Wide (start + 1) (drop start words) said)
-    × (found ≡ designations start parts.parts)
-AreDesignationsFrom (Err why) start words found = HaveContentFault Wide (start + 1) (drop start words) why
+    × (take count marks ≡ designations start parts.parts)
+AreDesignationsFrom (Err why) start words marks = HaveContentFault Wide (start + 1) (drop start words) why

@@ -2,7 +2,7 @@
 
 ghost use Rattle.std.specs.Prelude.{◌≡◌, ◌∷◌, ◌++◌, [], List, length};
 ghost use Rattle.dm_words.specs.Codewords.{codeword_of};
-ghost use Rattle.dm_words.specs.inner.Scan.Prefixes.{digit_by, begins_with_one_word};
+ghost use Rattle.dm_words.specs.inner.Scan.Prefixes.{digit_by, begins_with_one_word, is_one_word};
 ghost use Rattle.dm_words.specs.inner.ContentScan.{begins_append, first_frame, is_empty_run, opened};
 
 use crate::codeword::{Codeword, Lone, UNLATCH, lone_of, meaning};
@@ -80,15 +80,22 @@ fn begins_append(words: &[u8]) -> bool
     }
 }
 
+/// Whether a codeword is by itself a character or a pair of digits.
+pub(crate) fn is_alone(word: u8) -> bool
+    ensures { result ≡ is_one_word (codeword_of word) }
+{
+    match lone_of(word) {
+        Lone::Character(_) | Lone::Digits(_) => true,
+        Lone::Other => false,
+    }
+}
+
 /// Whether the first word is by itself a character or a pair of digits, and so opens nothing.
 fn begins_alone(words: &[u8]) -> bool
     ensures { result ≡ begins_with_one_word words.now }
 {
     match word_at(words, 0) {
-        Some(word) => match lone_of(word) {
-            Lone::Character(_) | Lone::Digits(_) => true,
-            Lone::Other => false,
-        },
+        Some(word) => is_alone(word),
         None => false,
     }
 }

@@ -1,12 +1,14 @@
-use Rattle.dm_words.proofs.Names.{◌-◌, ◌*◌, ◌≤◌, length}
+use Rattle.dm_words.proofs.Names.{◌≡◌, ◌-◌, ◌≤◌, length, take, AreMarksAt}
 use Rattle.dm_words.proofs.DesignationLoops.{AreTaken}
-use Rattle.dm_words.proofs.contents.designation.add_designations.Given as goal
+use Rattle.dm_words.proofs.contents.designation.designations_from.Given as goal
 
 abbrev pub invariant-loop-count : goal.invariant-loop-count
 invariant-loop-count l = record {
   in_range : l.at ≤ length l.words;
-  few : 2 * length l.found.items ≤ l.at;
-  taken : AreTaken l.words l.start l.at l.found.items;
+  marked : l.marked ≤ length l.marks;
+  same : length l.marks ≡ length l.fn.marks;
+  so_far : AreMarksAt l.words l.at (take l.marked l.marks);
+  taken : AreTaken l.words l.start l.at (take l.marked l.marks);
 }
 
 abbrev pub decreases-loop-count : goal.decreases-loop-count

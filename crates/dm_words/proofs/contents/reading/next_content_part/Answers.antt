@@ -7,6 +7,6 @@ pub mark_part-requires-clause-room : goal.mark_part-requires-clause-room
 mark_part-requires-clause-room c =
     let begins : drop c.args.at c.args.words.now ≡ eci_word ∷ drop (c.args.at + 1) c.args.words.now = search rules in
     let fits : length (take c.args.marked.now c.args.marks.now) < length c.args.marks.now =
-    mark_fits _ (length c.args.marks.now) _ _ _ (c.requires.marks c.in-Wide.is) c.requires.so_far
+    mark_fits (length c.args.marks.now) _ _ _ (c.requires.marks c.in-Wide.is) c.requires.so_far.marks
     (omega (arith, ap length begins, length-drop c.args.at c.args.words.now)) begins in
     omega (arith, fits, length-take {A = Mark})
