@@ -4,12 +4,14 @@
 of the crate as a function of its own, named as the edit is, beside the function whose contract and proof it has, and
 the check is asked for these functions and what they call alone. A method of a trait can't stand beside itself, so its
 wrong body takes its place. Where an edit changes several functions, each one is tried by itself. A function is refused
-where something of its own is, and not only what it calls. The crates below are taken as they were proved last.
+where something of its own is, and not only what it calls. Where the table must-fail/goals.md names a goal, that is the
+answer to this goal, and goals without an answer aren't tried. The crates below are taken as they were proved last.
 
 Nothing else is proved in the copy, since tests/proofs does that: each other function is an endless loop there, and a
 hole stands for its proof and for that of each lemma. The check goes on past it, so that a lemma is taken by what it
 states, and what an edit's function calls by its contract."""
 import collections
+import functools
 import glob
 import os
 import re
@@ -40,8 +42,9 @@ LACKING = "not proved as they stand: {}; run `rt lib` in each, or `make build`, 
 
 # A function of a file: its path below the crate, the lines where its comment and itself begin, and the line after.
 Function = collections.namedtuple("Function", "path file above start end is_of_trait")
-# The wrong body of a function: the name of the edit, and the lines that the function then has.
-Edit = collections.namedtuple("Edit", "name function lines")
+# The wrong body of a function: the name of the edit, the lines that the function then has, and the goal whose answer
+# refuses it, if that is known.
+Edit = collections.namedtuple("Edit", "name function lines by", defaults=[None])
 # What a check says of a function: whether it's proved, and what of its own is refused.
 Said = collections.namedtuple("Said", "is_proved own")
 
@@ -83,6 +86,13 @@ def body_of(lines, start):
     return None
 
 
+@functools.cache
+def goals_of(crate):
+    """By the name of an edit the goal whose answer refuses it."""
+    path = crates.folder(crate, "must-fail", "goals.md")
+    return dict(re.findall(r"(?m)^\| `(\w+)` \| `(.+)` \|$", places.text_of(path) if os.path.exists(path) else ""))
+
+
 def read_edits(crate, name):
     """Reads an edit of the toolchain's format: `file:`, and pairs of `old:` and `new:`, of which the old text stands in
     the file once. Gives an edit for each function that it changes and that a later pair doesn't change back."""
@@ -108,7 +118,7 @@ def read_edits(crate, name):
     if not changed:
         raise ValueError(f"{path}: no function is changed")
     names = [name] if len(changed) == 1 else [f"{name}_in_{it.path.split('::')[-1]}" for it in changed]
-    return [Edit(of, it, lines_of(texts[it.file], it)) for of, it in zip(names, changed)]
+    return [Edit(of, it, lines_of(texts[it.file], it), goals_of(crate).get(of)) for of, it in zip(names, changed)]
 
 
 def unchanged(crate, edits):
@@ -139,7 +149,10 @@ def write_copy(crate, edits, room):
             lines[function.start : function.end] = edit.lines
         else:
             head = re.sub(r"\bfn \w+", f"fn {edit.name}", edit.lines[0])
-            lines[function.end : function.end] = ["", *lines[function.above : function.start], head, *edit.lines[1:]]
+            above = lines[function.above : function.start]
+            if edit.by:
+                above = [*(it for it in above if "#[tactic(" not in it), "#[tactic(none)]"]
+            lines[function.end : function.end] = ["", *above, head, *edit.lines[1:]]
             copy_proof(crate, room, function.path, judged(edit))
         places.wrote("\n".join(lines), path)
 
@@ -271,6 +284,10 @@ def verdict(edit, said):
     if not found:
         return False, "BAD EDIT: the check says nothing of it"
     real = [it for it in found.own if not TAKEN_AWAY.search(it)]
+    if edit.by:
+        real = [it for it in real if it.startswith(f"`{edit.by}`")]
+        if not real:
+            return False, f"NOT REFUSED: the answer to {edit.by} isn't"
     if real:
         return True, f"refused, as it must be: {real[0][:160]}"
     if found.own:

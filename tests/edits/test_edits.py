@@ -30,6 +30,9 @@ class Edits:
     def test_nothing_else_is_refused(self):
         self.assertEqual(self.others, [])
 
+    def test_each_goal_is_of_an_edit(self):
+        self.assertLessEqual(set(copies.goals_of(self.crate)), {it.name for some in self.edits.values() for it in some})
+
 
 def case_of(name):
     def test(self):
