@@ -27,13 +27,14 @@ static bool turn_to(struct search *search, const struct plane *picture) {
 }
 
 /* Searches what a picture was made into, of which `scale` pixels are one of it, for symbols that weren't found. What
- * isn't read there may be no symbol, and isn't told. The plane is freed. */
-static void search_remade(struct search *search, struct plane *remade, int scale) {
+ * isn't read there may be no symbol, and isn't told. `is_alike`: whether only what is faint looks otherwise. The plane
+ * is freed. */
+static void search_remade(struct search *search, struct plane *remade, int scale, bool is_alike) {
     size_t room_for_unread = search->judge.unread.room;
     scale_symbols(search->found, search->count, scale);
     search->judge.unread.room = 0;
     if (turn_to(search, remade))
-        search_picture(search, remade, true);
+        search_picture(search, remade, true, is_alike);
     else
         plane_free(remade);
     scale_symbols(search->found, search->count, 1.0 / scale);
@@ -41,16 +42,23 @@ static void search_remade(struct search *search, struct plane *remade, int scale
 }
 
 /* The picture as a share of its ground. */
-static bool compare(const struct plane *picture, struct limit *limit, struct plane *out) {
-    return plane_compare(picture, NO_GLEAM, limit, out);
+static bool compare(const struct plane *picture, struct limit *limit, struct plane *out, bool *is_alike) {
+    return plane_compare(picture, NO_GLEAM, limit, out, is_alike);
 }
 
 /* The picture as a share of its ground without gleams, and then twice as large. */
-static bool compare_doubled(const struct plane *picture, struct limit *limit, struct plane *out) {
+static bool compare_doubled(const struct plane *picture, struct limit *limit, struct plane *out, bool *is_alike) {
     struct plane compared;
-    bool is_made = plane_compare(picture, GLEAM, limit, &compared) && plane_double(&compared, limit, out);
+    bool is_made = plane_compare(picture, GLEAM, limit, &compared, is_alike) && plane_double(&compared, limit, out);
     plane_free(&compared);
+    *is_alike = false;
     return is_made;
+}
+
+/* The picture with its dots joined. */
+static bool join_dots(const struct plane *picture, struct limit *limit, struct plane *out, bool *is_alike) {
+    *is_alike = false;
+    return plane_join_dots(picture, limit, out);
 }
 
 /* Whether a picture is made of two levels of brightness, as drawings are whose dots are single pixels. */
@@ -66,16 +74,16 @@ static bool is_drawn(const struct plane *picture) {
     return is_of_two;
 }
 
-/* What pictures are made into, how many pixels of that are one of the picture, how much work that is worth, and which
- * pictures are. */
+/* What pictures are made into, and whether that is alike but for what is faint; how many pixels of it are one of the
+ * picture, how much work that is worth, and which pictures are. */
 static const struct {
-    bool (*make)(const struct plane *picture, struct limit *limit, struct plane *out);
+    bool (*make)(const struct plane *picture, struct limit *limit, struct plane *out, bool *is_alike);
     int scale;
     int percent, most_pixels; /* percent of the usual work */
     bool is_for_drawings, is_for_more; /* of drawings only; also where something has been found */
 } LOOKS[] = {{compare, 1, 50, INT32_MAX, false, true},
              {compare_doubled, 2, 30, MOST_DOUBLED, false, false},
-             {plane_join_dots, JOINED, 50, MOST_JOINED, true, false}};
+             {join_dots, JOINED, 50, MOST_JOINED, true, false}};
 
 /* Looks at a picture in one of these ways, if it is of those. */
 static void look_again(struct search *search, const struct plane *picture, size_t k) {
@@ -87,10 +95,10 @@ static void look_again(struct search *search, const struct plane *picture, size_
         (LOOKS[k].is_for_drawings && !is_drawn(picture)))
         return;
     search->judge.original = picture, search->judge.scale_of_original = LOOKS[k].scale;
-    bool is_made = LOOKS[k].make(picture, limit, &remade);
+    bool is_alike = false, is_made = LOOKS[k].make(picture, limit, &remade, &is_alike);
     note_lack(search, is_made);
     if (is_made)
-        search_remade(search, &remade, LOOKS[k].scale);
+        search_remade(search, &remade, LOOKS[k].scale, is_alike);
 }
 
 void search_anew(struct search *search, const struct plane *picture) {

@@ -103,7 +103,7 @@ void search_lattices(struct search *search, const struct sight *sight, const str
     bool is_made = plane_steepen(grey_of(&view), search->judge.limit, &steep) && field != NULL;
     if (is_made)
         blank_found(search, sight->level + level, &steep);
-    int count = is_made ? find_spots(&steep, search->judge.limit, spots, view.tries.spots) : 0;
+    int count = is_made ? find_spots(&steep, search->most_steep, search->judge.limit, spots, view.tries.spots) : 0;
     for (int k = 0; k < count && !is_over(search); k++)
         search_spot(search, &view, &steep, &spots[k], field);
     note_lack(search, is_made && count >= 0);

@@ -24,6 +24,21 @@ static bool ground_of(const struct plane *from, int gleam, struct limit *limit, 
     return is_made;
 }
 
+/* Whether the ground is nowhere darker or lighter than near by, by more than a small share. */
+static bool is_even(const struct plane *ground) {
+    enum { NEAR = 8, SHARE = 8 }; /* pixels of the ground; one of so many parts */
+    int most = 0;
+    for (int y = 0; y < ground->height && most == 0; y++) {
+        const uint8_t *row = pixel_of(ground, 0, y),
+                      *below = pixel_of(ground, 0, nearest_pixel(y + NEAR, ground->height, 0));
+        for (int x = 0; x + NEAR < ground->width; x++) {
+            int across = abs(row[x] - row[x + NEAR]), down = abs(row[x] - below[x]);
+            most |= SHARE * across > row[x] || SHARE * down > row[x];
+        }
+    }
+    return most == 0;
+}
+
 /* The ground along a row of pixels, and at the ends the nearest: between two rows of it. */
 static void ground_along(const struct plane *ground, int y, int halvings, uint16_t *out) {
     int unit = 2 << halvings, at = 2 * y + 1 + unit / 2, lower = at % unit;
@@ -47,13 +62,14 @@ static void compare_row(const uint8_t *row, int width, const uint16_t *ground, i
     }
 }
 
-bool plane_compare(const struct plane *from, int gleam, struct limit *limit, struct plane *out) {
+bool plane_compare(const struct plane *from, int gleam, struct limit *limit, struct plane *out, bool *is_even_ground) {
     struct plane ground;
     uint32_t shares[LEVELS_OF_GREY];
     int halvings, y = 0;
     *out = (struct plane){0};
     if (!ground_of(from, gleam, limit, &ground, &halvings))
         return false;
+    *is_even_ground = is_even(&ground);
     for (int level = 0; level < LEVELS_OF_GREY; level++)
         shares[level] = ((uint32_t)WHITE << FIXED) / (uint32_t)(level > LEAST_GROUND ? level : LEAST_GROUND);
     uint8_t *to = plane_make(from->width, from->height, 0, out);

@@ -9,6 +9,7 @@ enum { LEAST_CONTRAST = 24, LEAST_OF_REMADE = 6 }; /* levels */
 static const struct surroundings WIDE = {8, 2, LEAST_CONTRAST}, CLOSE = {8, 1, LEAST_CONTRAST},
                                  OF_REMADE = {8, 1, LEAST_OF_REMADE};
 enum { FOR_NETS = 20 }; /* percent of the usual work */
+enum { STEEPEST_OF_FAINT = 8 }; /* levels: of a window with modules */
 static const double LEAST_LINE = 10; /* pixels of a level */
 
 /* At which level dots are looked for that have at most so many pixels to both sides of each of theirs. */
@@ -312,10 +313,11 @@ static void search_deeply(struct search *search) {
     search_nets(search);
 }
 
-void search_picture(struct search *search, const struct plane *picture, bool is_remade) {
+void search_picture(struct search *search, const struct plane *picture, bool is_remade, bool is_alike) {
     struct sight *plain = &search->sights[0], *inverted = &search->sights[1];
     plain->picture = *picture, inverted->is_inverted = true;
     search->by = is_remade ? OF_REMADE : WIDE, search->seeds.count = 0;
+    search->most_steep = is_alike ? STEEPEST_OF_FAINT : UINT8_MAX;
     note_lack(search, make_levels(plain, search->judge.limit));
     search_clearly(search);
     if (!is_remade && !is_over(search))

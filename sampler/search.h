@@ -40,6 +40,7 @@ struct search {
     size_t count, room;
     struct known known;   /* where they are */
     struct surroundings by; /* what is dark is darker than these */
+    int most_steep;         /* of what lattices are looked for in: what is steeper was seen before */
     struct seeds seeds;     /* of the lattices that were looked for */
 };
 
@@ -72,8 +73,8 @@ void search_lattices(struct search *search, const struct sight *sight, const str
 void search_nets(struct search *search);
 
 /* Searches a picture, and frees it if it is owned: for all that it shows clearly, and, unless it is what a picture was
- * made into, for all that can be made out as well. */
-void search_picture(struct search *search, const struct plane *picture, bool is_remade);
+ * made into, for all that can be made out as well. `is_alike`: whether what isn't faint was seen before as it is. */
+void search_picture(struct search *search, const struct plane *picture, bool is_remade, bool is_alike);
 
 /* Searches once more what the picture can be made into that shows more than it does itself. Why the search ended is
  * told of the picture as it is. */

@@ -75,7 +75,7 @@ static void keep_spot(struct spot *out, int room, int *count, struct spot spot) 
     out[at] = spot;
 }
 
-int find_spots(const struct plane *steep, struct limit *limit, struct spot *out, int room) {
+int find_spots(const struct plane *steep, int most, struct limit *limit, struct spot *out, int room) {
     struct tiles tiles = {.across = (steep->width + TILE - 1) / TILE, .down = (steep->height + TILE - 1) / TILE};
     int count = 0;
     tiles.sums = calloc((size_t)tiles.across * (size_t)tiles.down, sizeof *tiles.sums);
@@ -85,7 +85,7 @@ int find_spots(const struct plane *steep, struct limit *limit, struct spot *out,
     for (int row = -1; row < tiles.down; row++)
         for (int column = -1; column < tiles.across; column++) {
             double here = steepness_of(&tiles, column, row);
-            if (here >= LEAST_STEEPNESS && is_steepest(&tiles, column, row, here))
+            if (here >= LEAST_STEEPNESS && here <= most && is_steepest(&tiles, column, row, here))
                 keep_spot(out, room, &count,
                           (struct spot){within(column * TILE, steep->width), within(row * TILE, steep->height), here});
         }

@@ -10,7 +10,8 @@ struct spot {
     double steepness;
 };
 
-/* Writes at most `room` spots, the steepest first, and returns their number, or -1 if there is no memory. */
-int find_spots(const struct plane *steep, struct limit *limit, struct spot *out, int room);
+/* Writes at most `room` spots, none steeper than `most`, the steepest first, and returns their number, or -1 if there
+ * is no memory. */
+int find_spots(const struct plane *steep, int most, struct limit *limit, struct spot *out, int room);
 
 #endif

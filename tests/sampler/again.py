@@ -2,7 +2,9 @@
 import json
 import random
 
+from tests.sampler.hard import crowded
 from tests.sampler.pictures import grid_of, pgm, pixels_of, run
+from tests.sampler.timing import draw
 
 DARK, LIGHT = 20, 230
 
@@ -10,6 +12,19 @@ DARK, LIGHT = 20, 230
 def faint(message, pixels):
     """A symbol that is eight levels of 255 darker than its ground."""
     return pixels_of(grid_of(message), pixels, 3, LIGHT - 8, LIGHT)
+
+
+def among_text(message, pixels, depth):
+    """A symbol that touches others, so many levels darker than its ground, beside what looks like text and is clear."""
+    chance = random.Random(pixels)
+    part = pixels_of(crowded(grid_of(message), chance), pixels, 3, LIGHT - depth, LIGHT)
+    rows = [[LIGHT] * (len(part[0]) + 700) for _ in range(max(len(part), 500))]
+    draw(rows, part, 0, 0)
+    for line in range(24):
+        glyphs = [[chance.choice((DARK, LIGHT)) if column % 6 else LIGHT for column in range(220)] for _ in range(5)]
+        text = [[level for level in row for _ in range(3)] for row in glyphs for _ in range(3)]
+        draw(rows, text, 8 + 20 * line, len(part[0]) + 20)
+    return rows
 
 
 def on_dark(message, pixels):
@@ -49,6 +64,12 @@ class Again:
             self.all_say(f"{message}, {pixels} pixels a module", faint(message, pixels), [message])
         clear, other = pixels_of(grid_of("CLEAR1"), 5), faint("FAINT2", 5)
         self.all_say("beside a clear one", [one + two for one, two in zip(clear, other)], ["CLEAR1", "FAINT2"], "--all")
+
+    def test_faint_among_text(self):
+        """Lattices are looked for once more only in what is faint, where the ground is even: clear text hides none."""
+        for pixels, depth in ((3, 30), (4, 16), (4, 23)):
+            self.all_say(f"{pixels} pixels a module, {depth} levels", among_text("FAINT AMONG TEXT", pixels, depth),
+                         ["FAINT AMONG TEXT"])
 
     def test_on_dark(self):
         """What stands on a dark label is read though a lighter ground is near."""
