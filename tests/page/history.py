@@ -55,7 +55,7 @@ def back():
     soon("Back after typing", lambda: (is_seen("pane-make"), value_of("message"), shown()["says"]),
          (True, "typed", "typed"))
     linked()
-    visit("#make")
+    visit()
     go("#message=another")
     expect("another link", shown()["says"], "another")
     on.page.back()

@@ -186,6 +186,7 @@ CSV = {
         '09506000134352;271231;;AB-42;S1;"a; b"\n',
         ["\\F010950600013435217271231" + "10AB-42\\F21S1"], ["a; b"],
     ),
+    "names with separators": ('"Lot; or batch",Batch/Lot\n,AB-42\n', ["\\F10AB-42"], ["(10)AB-42"]),
     "what a spreadsheet keeps from being a formula": ("message,text\n'=1+1,'@x\n''-2,\n", ["=1+1", "'-2"], ["@x"]),
     "line ends within a field": ('message,text\r\n"A\r\nB",x\r\n"C\nD",y\r\n', ["A\\x0D\\x0AB", "C\\x0AD"], ["x", "y"]),
     "an empty column": ("message,\nA1,\nB2,", ["A1", "B2"], ["A1", "B2"]),

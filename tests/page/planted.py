@@ -43,6 +43,7 @@ def laid(spoilt):
 def try_parts(file, first):
     """Runs the parts over a page, each over one that is loaded anew, until one fails."""
     browser.have()
+    on.page.get_log("browser")  # what is of the bug before
     for part in sorted([*PARTS, uses], key=lambda part: part.__name__ != first):
         random.seed(1)
         on.part = part.__name__
