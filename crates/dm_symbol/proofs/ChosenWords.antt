@@ -4,10 +4,10 @@ use Rattle.dm_symbol.proofs.Names.{◌≡◌, ◌∙◌, ◌<◌, ℕ, List, len
 use Rattle.dm_symbol.proofs.Names.{IfOk, OnErr, IsSome, false≢true, SizeChoice, SizeEntry, IsSize, entry_for}
 use Rattle.dm_symbol.proofs.Names.{SymbolView, WordsView, IsLaid, size_facts, Extent, TooLong, Item, ContentView}
 use Rattle.dm_symbol.proofs.Names.{content_form, Form, Profiled, Smallest, IsSmallestContentWritten, AreCodewordsOf}
-use Rattle.dm_symbol.proofs.Names.{first_data, AreChosen, IsWrittenAs, FitChoice}
+use Rattle.dm_symbol.proofs.Names.{first_data, take, AreChosen, IsWrittenAs, FitChoice}
 use Rattle.dm_words.specs.declared.contents.head.Head.{Head}
 use Rattle.dm_words.specs.declared.contents.mark.Mark.{Mark}
-use Rattle.dm_words.specs.Smallest.{IsSmallestContentResult}
+use Rattle.dm_words.specs.Smallest.{IsSmallestContentResult, chosen_words}
 use Rattle.dm_symbol.proofs.SmallestContentSymbols.{laid_is_smallest_content, no_content_written}
 use Rattle.dm_symbol.proofs.SmallestContentSymbols.{smallest_content_written}
 use Rattle.dm_symbol.proofs.SymbolCompletions.{chosen_stands}
@@ -41,24 +41,17 @@ fits_no_size choice form long fits = by_size (entry_for choice (length form)) re
         long,
       )
 
--- What choosing the smallest words gives: the words of a size, or that there is none in which the content is written.
-module _ (extent : Extent) (choice : SizeChoice) (l : ContentView) (words : List ℕ) where
-  pub smallest_chosen : (r : Result SizeEntry TooLong) → IsSmallestContentResult extent choice l r words
-      → IfOk r (λ size. IsSmallestContentResult extent choice l (Ok size) words)
+-- What choosing the smallest words gives: the words of a size at the beginning of a target, or that there is none in
+-- which the content is written.
+module _ (extent : Extent) (choice : SizeChoice) (l : ContentView) (target : List ℕ) where
+  pub smallest_chosen : (r : Result SizeEntry TooLong)
+      → IsSmallestContentResult extent choice l r (chosen_words r target)
+      → IfOk r (λ size. IsSmallestContentResult extent choice l (Ok size) (take size.data_count target))
   smallest_chosen (Ok size) is = is
   smallest_chosen (Err why) is = tt
 
-  pub smallest_sized : (r : Result SizeEntry TooLong) → IsSmallestContentResult extent choice l r words
-      → IfOk r (λ size. length words ≡ size.data_count)
-  smallest_sized (Ok size) is = is.smallest.sized
-  smallest_sized (Err why) is = tt
-
-  pub smallest_stands : (r : Result SizeEntry TooLong) → IsSmallestContentResult extent choice l r words
-      → IfOk r IsSize
-  smallest_stands (Ok size) is = is.smallest.taken.0
-  smallest_stands (Err why) is = tt
-
-  pub smallest_none : (r : Result SizeEntry TooLong) → IsSmallestContentResult extent choice l r words
+  pub smallest_none : (r : Result SizeEntry TooLong)
+      → IsSmallestContentResult extent choice l r (chosen_words r target)
       → OnErr r ((why : TooLong) → IsSmallestContentWritten extent choice l (Err why))
   smallest_none (Ok size) is = tt
   smallest_none (Err e) is = λ why. no_content_written extent choice l why (is.too_long refl)

@@ -2,7 +2,8 @@
 use Rattle.dm_symbol.proofs.Names.{◌≡◌, ℕ, ◌<◌, ◌≤◌, List, length, Option, Some, None, IsSome, Result, Ok, Err, IsErr}
 use Rattle.dm_symbol.proofs.Names.{refl, sym, ap, subst, ◌∙◌, All, false≢true, TooLong, padded, SizeChoice, SizeEntry}
 use Rattle.dm_symbol.proofs.Names.{entry_for, SymbolView, WordsView, IsLaid, words_with, AreOfSize, AreCodewordsOf}
-use Rattle.dm_symbol.proofs.Names.{first_data, FitChoice}
+use Rattle.dm_symbol.proofs.Names.{first_data, take, FitChoice}
+use Rattle.std.proofs.lemmas.List.{take-take}
 use Rattle.dm_symbol.specs.WrittenWords.{AreWrittenIn, AreWritten}
 use Rattle.dm_layout.proofs.symbols.Exported.{one_laid, some_laid}
 use Rattle.dm_symbol.proofs.SymbolBelow.{held_is_one}
@@ -12,6 +13,14 @@ use Rattle.dm_symbol.proofs.SymbolWriteSteps.{checks_follow, chosen_holds}
 -- Two equal results that are there say the same.
 pub some_is : {A : Type 0} (a b : A) → Some a ≡ Some b → a ≡ b
 some_is a b e = cc
+
+-- Codewords that stand at the beginning of as many as a size has are followed by its pads.
+pub front_padded : (count most total : ℕ) (words form new : List ℕ) → count ≤ most → take count words ≡ form
+    → length (take most words) ≡ total
+    → new ≡ padded (take count (take most words)) (length (take most words)) → new ≡ padded form total
+front_padded count most total words form new le is long put =
+    put ∙ ap (λ n. padded (take count (take most words)) n) long
+    ∙ ap (λ w. padded w total) (take-take count most words le ∙ is)
 
 module _ (choice : SizeChoice) (form : List ℕ) where
   -- Codewords that are written in a size of the choice fit one.

@@ -4,11 +4,10 @@ ghost use Rattle.std.specs.Prelude.{◌≡◌, OnErr};
 ghost use Rattle.dm_words.specs.Outcomes.{outcome};
 ghost use Rattle.dm_symbol.specs.NormalGrid.{IsWritten};
 
-use crate::symbol::writing::complete_with;
-use arrayvec::ArrayVec;
+use crate::symbol::writing::complete_in;
 use dm_layout::symbols::SymbolWordsIn;
 use dm_layout::{Grid, MOST_GRID_CODEWORDS, Size, lay_symbol_to};
-use dm_words::{MOST_GRID_DATA, Message, Profile, TooLong, add_pads, normal_words_in};
+use dm_words::{MOST_GRID_DATA, Message, Profile, TooLong, add_pads, normal_words_to};
 
 /// Gives the normal grid of a message under [`Profile::Ascii`]: what [`write_as`] gives for that profile.
 pub fn write(message: &Message) -> Result<Grid, TooLong>
@@ -39,16 +38,18 @@ pub fn write_to(profile: Profile, message: &Message, grid: &mut Grid) -> Result<
 {
     // Room for the codewords of any square. It is made before the first return, so that it is cleared only once.
     let mut words = SymbolWordsIn::<MOST_GRID_CODEWORDS>::zeros(grid.size().symbol());
-    let mut list = ArrayVec::<u8, MOST_GRID_DATA>::new();
-    match normal_words_in(profile, message.items(), &mut list) {
-        Ok(()) => {}
+    let mut list = [0; MOST_GRID_DATA];
+    let count = match normal_words_to(profile, message.items(), &mut list) {
+        Ok(count) => count,
         Err(TooLong) => return Err(TooLong),
-    }
-    let Some(size) = Size::for_words(list.len() as u16) else {
+    };
+    let Some(size) = Size::for_words(count as u16) else {
         return Err(TooLong);
     };
-    add_pads(&mut list, size);
-    complete_with(&mut words, size.symbol(), &list);
+    let data = &mut list[..usize::from(size.data_count())];
+    add_pads(data, count);
+    let shape = size.symbol();
+    complete_in(words.resize(shape), shape, data);
     lay_symbol_to(&words, grid);
     Ok(())
 }

@@ -248,6 +248,13 @@ fn with_pads(words: &[u8], size: Option<Size>) -> Option<ArrayVec<u8, MOST_GRID_
     }
 }
 
+/// The codewords as a list.
+fn list_of(words: &[u8]) -> ArrayVec<u8, MOST_GRID_DATA> {
+    let mut list = ArrayVec::new();
+    let _room = list.try_extend_from_slice(words);
+    list
+}
+
 /// Whether these are the codewords.
 fn are_words(outcome: &Option<ArrayVec<u8, MOST_GRID_DATA>>, expected: &[u8]) -> bool {
     match outcome {

@@ -57,62 +57,23 @@ pub count_turn : (items : List Item) (marks : List Mark) (before i place number 
 count_turn items marks before i place number total sum a m t first second so_far =
     grind (arith, ascii_with_marks, eci_word, length-append)
 
--- There is room for the items up to the next mark, and for the mark.
-pub fits_turn : (items : List Item) (marks : List Mark) (before i place number : ℕ) (base all words : List ℕ)
+-- The codewords that are left are those of the items up to the next mark, of the mark, and the others.
+pub turn_length : (items : List Item) (marks : List Mark) (before i place number : ℕ)
     → Turn items marks before i place number
-    → base ++ all ≡ words ++ ascii_with_marks before (drop before items) (drop i marks)
-    → length words
-    + (length (ascii (take (place - before) (drop before items))) + length (eci_word ∷ designator number)) ≤
-    length base + length all
-fits_turn items marks before i place number base all words t so_far =
+    → length (ascii_with_marks before (drop before items) (drop i marks))
+    ≡ length (ascii (take (place - before) (drop before items)))
+    + (length (eci_word ∷ designator number) + length (ascii_with_marks place (drop place items) (drop (i + 1) marks)))
+turn_length items marks before i place number t =
     let piece = ascii (take (place - before) (drop before items)) in
     let rest = ascii_with_marks place (drop place items) (drop (i + 1) marks) in
     let mark = eci_word ∷ designator number in
-    let left = ascii_with_marks before (drop before items) (drop i marks) in
-    omega (
-      arith,
-      ap length so_far,
-      length-append base all,
-      length-append words left,
-      ap length t.words,
-      length-append piece (mark ++ rest),
-      length-append mark rest,
-    )
+    omega (arith, ap length t.words, length-append piece (mark ++ rest), length-append mark rest)
 
--- There is room for the items up to the next mark.
-pub piece_fits : (items : List Item) (marks : List Mark) (before i place number most : ℕ) (base all words : List ℕ)
-    → Turn items marks before i place number
-    → base ++ all ≡ words ++ ascii_with_marks before (drop before items) (drop i marks)
-    → length base + length all ≤ most
-    → length words + length (ascii (take (place - before) (drop before items))) ≤ most
-piece_fits items marks before i place number most base all words t so_far room =
-    omega (arith, fits_turn items marks before i place number base all words t so_far, room)
-
--- There is room for the mark behind them.
-pub mark_fits : (items : List Item) (marks : List Mark) (before i place number most : ℕ) (base all words new : List ℕ)
-    → Turn items marks before i place number
-    → base ++ all ≡ words ++ ascii_with_marks before (drop before items) (drop i marks)
-    → length base + length all ≤ most
-    → new ≡ words ++ ascii (take (place - before) (drop before items))
-    → length new + length (eci_word ∷ designator number) ≤ most
-mark_fits items marks before i place number most base all words new t so_far room is =
-    omega (
-      arith,
-      fits_turn items marks before i place number base all words t so_far,
-      ap length is,
-      length-append words (ascii (take (place - before) (drop before items))),
-    )
-
--- Behind the last mark, there is room for the other items.
-pub last_fits : (items : List Item) (marks : List Mark) (before i most : ℕ) (base all words : List ℕ) → length marks ≤ i
-    → base ++ all ≡ words ++ ascii_with_marks before (drop before items) (drop i marks)
-    → length base + length all ≤ most
-    → length words + length (ascii (take (length items - before) (drop before items))) ≤ most
-last_fits items marks before i most base all words le so_far room =
-    let left = ascii_with_marks before (drop before items) (drop i marks) in
-    let whole : length (ascii (take (length items - before) (drop before items))) ≡ length left =
-    cc (take_rest items before, last items marks before i le) in
-    omega (arith, ap length so_far, length-append base all, length-append words left, room, whole)
+-- Behind the last mark, those of the other items are left.
+pub last_length : (items : List Item) (marks : List Mark) (before i : ℕ) → length marks ≤ i
+    → length (ascii_with_marks before (drop before items) (drop i marks))
+    ≡ length (ascii (take (length items - before) (drop before items)))
+last_length items marks before i le = cc (take_rest items before, last items marks before i le)
 
 -- The codewords are added up to the next mark and with it.
 pub add_turn : (items : List Item) (marks : List Mark) (before i place number : ℕ) (total words new newer : List ℕ)
@@ -123,22 +84,3 @@ pub add_turn : (items : List Item) (marks : List Mark) (before i place number : 
     ++ ascii_with_marks place (drop place items) (drop (i + 1) marks)
 add_turn items marks before i place number total words new newer t so_far first second =
     grind (arith, ascii_with_marks, eci_word, append_assoc)
-
--- ---- items in ASCII behind other codewords
-
--- One unit more is written.
-pub unit_added : (u : Unit) (items : List Item) (at : ℕ) (total old new : List ℕ) → HasUnit u items at → total ≡ old
-    ++ ascii (drop at items) → new ≡ old ++ unit_words u
-    → total ≡ new ++ ascii (drop (at + unit_items u) items)
-unit_added u items at total old new h1 h2 h3 = grind (arith, append_assoc, unit_words, unit_items)
-
--- There is room for the unit.
-pub unit_fits : (u : Unit) (items : List Item) (at : ℕ) (total old : List ℕ) → HasUnit u items at → total ≡ old
-    ++ ascii (drop at items) → length old + length (unit_words u) ≤ length total
-unit_fits u items at total old h so_far = grind (arith, unit_added, unit_words, length-append, unit_items)
-
--- At the end all of it is written.
-pub units_end : (items : List Item) (at : ℕ) (total words : List ℕ) → length items ≤ at → total ≡ words
-    ++ ascii (drop at items) → words ≡ total
-units_end items at total words le so_far =
-    sym (so_far ∙ at_drop_all (λ (r : List Item). words ++ ascii r) items at le ∙ append-nil words)

@@ -104,6 +104,7 @@ pub use Rattle.std.proofs.lemmas.Bool.{cases_lt, eqb-true, ltb-false}
 pub use Rattle.std.proofs.lemmas.Bool.Decides.{nat_tests}
 pub use Rattle.std.proofs.lemmas.List.{append-nil, at_drop_all, at_drop_more, drop-drop, drop_all, drop_at, get_or-drop}
 pub use Rattle.std.proofs.lemmas.List.{get_or-set_other, get_or-set_same, length-drop, length-map, length-take}
+pub use Rattle.std.proofs.lemmas.List.{length-take-le}
 pub use Rattle.std.proofs.lemmas.List.{map-append, nil_from_length, take-append-drop, take_all, take_at, take_rest}
 pub use Rattle.std.proofs.lemmas.List.Elements.{All-append, All-drop, All-from_recursion, All-take, recursion_from_All}
 pub use Rattle.std.proofs.lemmas.Result.{err_from_is_err_and}

@@ -2,7 +2,8 @@
 use Rattle.dm_words.proofs.Names.{◌≡◌, ◌⊎◌, inl, inr, ℕ, ◌+◌, ◌-◌, ◌*◌, ◌/◌, ◌%◌, ◌<◌, ◌≤◌, List, [], ◌∷◌, ◌++◌, length}
 use Rattle.dm_words.proofs.Names.{map, take, drop, get_or, append_assoc, add-one, refl, sym, ap, subst, ◌∙◌, arith}
 use Rattle.dm_words.proofs.Names.{Bool, true, false, not, cond, ltb, ◌&&◌, cases_lt, nat_tests, append-nil}
-use Rattle.dm_words.proofs.Names.{at_drop_more, length-append, length-map, map-append, take-suc, recursion_from_All}
+use Rattle.dm_words.proofs.Names.{at_drop_more, length-append, length-map, length-take, map-append, take-suc}
+use Rattle.dm_words.proofs.Names.{recursion_from_All}
 use Rattle.dm_words.proofs.Names.{Extent, Item, Byte, Fnc1, Profile, Ascii, Shorter, Piece, byte_of}
 use Rattle.dm_words.proofs.Names.{IsItem, IsMessage, byte_items, most_data, is_digit, digit_pair, single, ascii, pads}
 use Rattle.dm_words.proofs.Names.{padded, written, randomised, AreBytes, IsLengthField, short, long, IsSegment}
@@ -257,22 +258,20 @@ one_byte_more m i d lt = ap (map byte_of) (rw add-one (take-suc m i d lt))
     ∙ map-append byte_of (take i m) (get_or m i d ∷ [])
 
 -- One turn of the loop that writes bytes writes that of one more item.
-pub bytes_more : (start old new : List ℕ) (m : List Item) (i b : ℕ) (d : Item) → i < length m → b
+pub bytes_more : (place : ℕ) (start old new : List ℕ) (m : List Item) (i b : ℕ) (d : Item) → i < length m → b
     ≡ byte_of (get_or m i d)
-    → old ≡ start ++ written (length start + 1) (map byte_of (take i m)) → new ≡ old
-    ++ randomised (length old + 1) b ∷ []
-    → new ≡ start ++ written (length start + 1) (map byte_of (take (i + 1) m))
-bytes_more start old new m i b d lt is so_far e =
-    let place = length start + 1 in
+    → old ≡ start ++ written place (map byte_of (take i m)) → new ≡ old ++ randomised (place + i) b ∷ []
+    → new ≡ start ++ written place (map byte_of (take (i + 1) m))
+bytes_more place start old new m i b d lt is so_far e =
     let before = map byte_of (take i m) in
-    let here : length old + 1
-    ≡ place + length before =
-    omega (arith, ap length so_far, length-append start (written place before), length-written place before) in
+    let here : i ≡ length before = omega (arith, lt, length-map (take i m) byte_of, length-take i m) in
     let more : before ++ b ∷ [] ≡ map byte_of (take (i + 1) m) = cc (one_byte_more m i d lt) in
-    cc (
-      append_assoc start (written place before) (randomised (length old + 1) b ∷ []),
-      written-append place before (b ∷ []),
-    )
+    let put : new ≡ old ++ randomised (place + length before) b ∷ [] =
+    subst (λ (k : ℕ). new ≡ old ++ randomised (place + k) b ∷ []) here e in
+    let last = randomised (place + length before) b ∷ [] in
+    put ∙ ap (λ (l : List ℕ). l ++ last) so_far ∙ append_assoc start (written place before) last
+    ∙ ap (λ (l : List ℕ). start ++ l) (sym (written-append place before (b ∷ [])))
+    ∙ ap (λ (l : List ℕ). start ++ written place l) more
 
 -- A latch, numbers and bytes that are written one behind the other are a latch and all values.
 pub segment_whole : (start latched counted new numbers bytes : List ℕ) → latched ≡ start ++ 231 ∷ [] → counted
@@ -280,6 +279,27 @@ pub segment_whole : (start latched counted new numbers bytes : List ℕ) → lat
     → new ≡ start ++ 231 ∷ written (length start + 2) (numbers ++ bytes)
 segment_whole start latched counted new numbers bytes latch count all =
     grind (arith, length-append, length-written, append_assoc, written-append)
+
+-- So are those of one segment, where so many codewords were held before the numbers and before the bytes.
+pub segment_held : (first second : ℕ) (latched counted new bytes : List ℕ) → latched ≡ 231 ∷ [] → first ≡ 1
+    → counted ≡ latched ++ written (first + 1) (length_numbers (length bytes))
+    → second ≡ first + length (length_numbers (length bytes)) → new ≡ counted ++ written (second + 1) bytes
+    → new ≡ one_segment bytes
+segment_held first second latched counted new bytes latch one count more all =
+    let numbers = length_numbers (length bytes) in
+    let at : first ≡ length latched = omega (arith, one, ap length latch) in
+    let counts : counted ≡ latched ++ written (length latched + 1) numbers =
+    subst (λ (k : ℕ). counted ≡ latched ++ written (k + 1) numbers) at count in
+    let behind : second ≡ length counted = omega (
+      arith,
+      more,
+      at,
+      ap length counts,
+      length-append latched (written (length latched + 1) numbers),
+      length-written (length latched + 1) numbers,
+    ) in
+    segment_whole [] latched counted new numbers bytes latch counts
+    (subst (λ (k : ℕ). new ≡ counted ++ written (k + 1) bytes) behind all)
 
 -- ---- choosing
 

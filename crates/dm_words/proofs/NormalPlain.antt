@@ -1,13 +1,13 @@
 -- The normal form under each profile is a plain form.
 use Rattle.dm_words.proofs.Names.{◌≡◌, ℕ, ◌+◌, ◌<◌, ◌≤◌, List, [], ◌∷◌, ◌++◌, length, map, refl, sym, ap, subst, ◌∙◌}
 use Rattle.dm_words.proofs.Names.{arith, true, false, Option, Some, None, ◌↔◌, inl, inr, Result, Ok}
-use Rattle.dm_words.proofs.Names.{Err, OnOk, cases_lt, nat_tests, length-map}
+use Rattle.dm_words.proofs.Names.{Err, take, cases_lt, nat_tests, length-map}
 use Rattle.dm_words.proofs.Names.{Wide, TooLong, Item, Head, Mark, Profile, Ascii, Shorter}
 use Rattle.dm_words.proofs.Names.{written, IsHead, head_words, as_content, ascii_with_marks, form_by, content_form}
 use Rattle.dm_words.proofs.Names.{ContentView, AreMarks, IsContent, byte_of, IsMessage, has_fnc1}
 use Rattle.dm_words.proofs.Names.{length_numbers, one_segment, normal_form, shorter, padded, IsPlainForm, view_of}
 use Rattle.dm_words.proofs.Names.{is_plain, sign_words, ArePartsWritten, Says, most_data}
-use Rattle.std.specs.Prelude.{IsErr}
+use Rattle.std.specs.Prelude.{IfOk, IsErr}
 use Rattle.dm_words.specs.Plain.{IsPlainWithPads}
 use Rattle.dm_words.proofs.NormalForms.{normal_form_spells, length-one_segment, says_count, segment_whole}
 use Rattle.dm_words.proofs.NormalForms.{segment_or_ascii, some_items}
@@ -97,12 +97,12 @@ message_plain profile m words is few fit = written_plain profile (as_content m) 
 -- Where the normal form of a head, items and marks was written, it is one.
 pub content_plain : (profile : Profile) (head : Option Head) (items : List Item) (marks : List Mark)
     (words form : List ℕ)
-    (room : ℕ) (result : Result (Unit {0}) TooLong)
+    (room : ℕ) (result : Result ℕ TooLong)
     → IsHead head → AreMarks 0 (length items) marks → room ≤ 1558 → form ≡ form_by profile head items marks
-    → OnOk result (words ≡ form) → (IsErr result ↔ (room < length form))
-    → OnOk result (IsMessage items → IsPlainWithPads words (view_of head items marks))
-content_plain profile head items marks words form room (Ok u) right are few is written long = λ fit.
-    written_plain profile (view_of head items marks) words (written ∙ is)
+    → IfOk result (λ count. take count words ≡ form) → (IsErr result ↔ (room < length form))
+    → IfOk result (λ count. IsMessage items → IsPlainWithPads (take count words) (view_of head items marks))
+content_plain profile head items marks words form room (Ok count) right are few is written long = λ fit.
+    written_plain profile (view_of head items marks) (take count words) (written ∙ is)
     (elim (cases_lt room (length form)) [
       | inl lt ↦ absurd (let e = long.1 lt in cc)
       | inr le ↦ omega (arith, le, ap length written, few)

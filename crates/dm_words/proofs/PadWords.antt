@@ -1,20 +1,56 @@
 -- Lemmas on pads.
 use Rattle.dm_words.proofs.Names.{◌≡◌, ℕ, zero, suc, ◌+◌, ◌-◌, ◌<◌, ◌≤◌, List, [], ◌∷◌, ◌++◌, length, length-append}
-use Rattle.dm_words.proofs.Names.{refl, ap, append_assoc, add-zero, arith, nat_tests, further_pads, pads}
+use Rattle.dm_words.proofs.Names.{take, take_all, append-nil, refl, ap, append_assoc, arith, nat_tests, further_pads}
+use Rattle.dm_words.proofs.Names.{pads}
 use Rattle.dm_words.proofs.Names.{padded, AreBytes, ArePads, NoUnlatchFirst}
 use Rattle.dm_words.specs.Pads.{pad_at}
 use Rattle.dm_words.proofs.Pieces.{all-append}
 
--- One more pad stands at the end.
-further_pads-push : (place n : ℕ) → further_pads place (suc n) ≡ further_pads place n ++ pad_at (place + n) ∷ []
-further_pads-push place zero = rw add-zero refl
-further_pads-push place (suc n) = grind (arith, nat_tests, pad_at, further_pads, further_pads-push (place + 1) n)
+-- What is left of the pads behind the first one.
+pub first_left : (held next count : ℕ) (words new : List ℕ) → length words ≡ held → held < count → next ≡ held + 1
+    → new ≡ words ++ 129 ∷ [] → padded words count ≡ new ++ further_pads (next + 1) (count - next)
+first_left held next count words new here lt one is =
+    let some : count - length words ≡ suc (count - next) = omega (arith, here, lt, one) in
+    let place : length words + 1 ≡ next = omega (arith, here, one) in
+    let rest = further_pads (next + 1) (count - next) in
+    cc (
+      ap (λ (n : ℕ). words ++ pads (length words + 1) n) some,
+      ap (λ (n : ℕ). words ++ 129 ∷ further_pads (n + 1) (count - next)) place,
+      append_assoc words (129 ∷ []) rest,
+    )
 
--- One turn of the loop that adds pads adds the pad of its place.
-pub pads_more : (words : List ℕ) (place : ℕ) (old new : List ℕ) (p : ℕ) → length words + 2 ≤ place → p ≡ pad_at place
-    → old ≡ words ++ 129 ∷ further_pads (length words + 2) (place - (length words + 2))
-    → new ≡ old ++ p ∷ [] → new ≡ words ++ 129 ∷ further_pads (length words + 2) (place + 1 - (length words + 2))
-pads_more words place old new p le is so_far e = grind (arith, further_pads-push, append_assoc, further_pads, pad_at)
+-- One more pad is written.
+pub pad_turn : (held next count p : ℕ) (all old new : List ℕ) → held < count → next ≡ held + 1 → p ≡ pad_at (held + 1)
+    → all ≡ old ++ further_pads (held + 1) (count - held) → new ≡ old ++ p ∷ []
+    → all ≡ new ++ further_pads (next + 1) (count - next)
+pad_turn held next count p all old new lt one is so_far put =
+    let some : count - held ≡ suc (count - next) = omega (arith, lt, one) in
+    cc (
+      ap (λ (n : ℕ). old ++ further_pads (held + 1) n) some,
+      ap (λ (n : ℕ). old ++ pad_at (held + 1) ∷ further_pads (n + 1) (count - next)) one,
+      append_assoc old (p ∷ []) (further_pads (next + 1) (count - next)),
+    )
+
+-- At the end all pads are written.
+pub pads_end : (held count : ℕ) (all words : List ℕ) → length words ≤ held → count ≤ held
+    → all ≡ take held words ++ further_pads (held + 1) (count - held) → words ≡ all
+pads_end held count all words le few so_far =
+    let none : count - held ≡ 0 = omega (arith, few) in
+    cc (
+      ap (λ (n : ℕ). take held words ++ further_pads (held + 1) n) none,
+      append-nil (take held words),
+      take_all held words le,
+    )
+
+-- Where there is no room for any, none are there.
+pub no_pads : (held : ℕ) (words : List ℕ) → length words ≤ held → words ≡ padded (take held words) (length words)
+no_pads held words le =
+    let none : length words - length words ≡ 0 = omega arith in
+    cc (
+      take_all held words le,
+      ap (λ (n : ℕ). words ++ pads (length words + 1) n) none,
+      append-nil words,
+    )
 
 -- There are as many further pads as asked for.
 length-further_pads : (place n : ℕ) → length (further_pads place n) ≡ n

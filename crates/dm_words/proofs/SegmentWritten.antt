@@ -42,27 +42,23 @@ field_written extent total old latched counted new field m some fit none latch c
     }
 
 -- The bytes take a codeword each.
-pub bytes_length : (counted new : List ℕ) (m : List Item) → new ≡ counted
+bytes_length : (counted new : List ℕ) (m : List Item) → new ≡ counted
     ++ written (length counted + 1) (map byte_of m) → length new ≡ length counted + length m
 bytes_length counted new m all = grind (arith, length-append, byte_of, length-written, length-map)
 
--- So many codewords were written.
-pub field_length : (old latched counted new field : List ℕ) (m : List Item) → latched ≡ old ++ 231 ∷ [] → counted
-    ≡ latched ++ written (length latched + 1) field → new ≡ counted ++ written (length counted + 1) (map byte_of m)
-    → length new ≡ length old + 1 + length field + length m
-field_length old latched counted new field m latch count all =
-    grind (arith, length-append, length-written, bytes_length)
-
 -- A field that says all bytes up to the end of the symbol.
-pub field_to_end : (total count : ℕ) (old new : List ℕ) → length old + 1 + count ≡ total → new ≡ old
-    ++ randomised (length old + 1) 0 ∷ [] → IsFieldWritten total count old new
-field_to_end total count old new full is = record {
+pub field_to_end : (total count held : ℕ) (old new : List ℕ) → length old ≡ held → held + 1 + count ≡ total → new ≡ old
+    ++ randomised (held + 1) 0 ∷ [] → IsFieldWritten total count old new
+field_to_end total count held old new here full put = record {
   field = 0 ∷ [];
   words_are = is;
   few = by_test (nat_le count 249);
-  fits = omega (arith, l, full);
-  counts = λ after fills. by_after after (omega (arith, l, full, fills));
+  fits = omega (arith, l, here, full);
+  counts = λ after fills. by_after after (omega (arith, l, here, full, fills));
 } where
+  is : new ≡ old ++ randomised (length old + 1) 0 ∷ []
+  is = subst (λ (n : ℕ). new ≡ old ++ randomised (n + 1) 0 ∷ []) (sym here) put
+
   l : length new ≡ length old + 1
   l = omega (arith, ap length is, length-append old (randomised (length old + 1) 0 ∷ []))
 
@@ -75,22 +71,25 @@ field_to_end total count old new full is = record {
   by_after (w ∷ after) none = absurd (omega (arith, none))
 
 -- A field that says the count.
-pub field_of_count : (total count : ℕ) (old new : List ℕ) → 0 < count → total ≤ 1558
-    → (count ≤ 249) ⊎ (length old + 1 + count ≢ total) → length old + 1 + count ≤ total
-    → new ≡ old ++ written (length old + 1) (length_numbers count) → IsFieldWritten total count old new
-field_of_count total count old new some most which room is = record {
+pub field_of_count : (total count held : ℕ) (old new : List ℕ) → length old ≡ held → 0 < count → total ≤ 1558
+    → (count ≤ 249) ⊎ (held + 1 + count ≢ total) → held + 1 + count ≤ total
+    → new ≡ old ++ written (held + 1) (length_numbers count) → IsFieldWritten total count old new
+field_of_count total count held old new here some most which room put = record {
   field = length_numbers count;
   words_are = is;
   few = omega arith;
   fits = elim (cases_lt 249 count) [
     | inl many ↦ elim which [
       | inl few ↦ absurd (omega (arith, few, many))
-      | inr other ↦ omega (arith, l, ap length (long_numbers count many), other, room)
+      | inr other ↦ omega (arith, l, here, ap length (long_numbers count many), other, room)
     ]
-    | inr few ↦ omega (arith, l, ap length (short_numbers count few), room)
+    | inr few ↦ omega (arith, l, here, ap length (short_numbers count few), room)
   ];
   counts = λ after fills. says_count count after some (omega (arith, most, room));
 } where
+  is : new ≡ old ++ written (length old + 1) (length_numbers count)
+  is = subst (λ (n : ℕ). new ≡ old ++ written (n + 1) (length_numbers count)) (sym here) put
+
   l : length new ≡ length old + length (length_numbers count)
   l = omega (
     arith,
@@ -99,13 +98,27 @@ field_of_count total count old new some most which room is = record {
     length-written (length old + 1) (length_numbers count),
   )
 
+-- The field has no more numbers than would say the count.
+pub field_few : (total count : ℕ) (old new : List ℕ) → IsFieldWritten total count old new
+    → length new ≤ length old + length (length_numbers count)
+field_few total count old new f =
+    omega (
+      arith,
+      f.few,
+      ap length f.words_are,
+      length-append old (written (length old + 1) f.field),
+      length-written (length old + 1) f.field,
+    )
+
 -- A segment was written.
-pub segment_written : (extent : Extent) (total : ℕ) (old latched counted new : List ℕ) (m : List Item)
+pub segment_written : (extent : Extent) (total held : ℕ) (old latched counted new : List ℕ) (m : List Item)
     → 0 < length m → IsMessage m
     → has_fnc1 m ≡ false → latched ≡ old ++ 231 ∷ []
-    → (f : IsFieldWritten total (length m) latched counted) → new ≡ counted
-    ++ written (length counted + 1) (map byte_of m) → IsPartWritten extent total old new m
-segment_written extent total old latched counted new m some fit none latch f all =
+    → (f : IsFieldWritten total (length m) latched counted) → length counted ≡ held → new ≡ counted
+    ++ written (held + 1) (map byte_of m) → IsPartWritten extent total old new m
+segment_written extent total held old latched counted new m some fit none latch f here put =
+    let all : new ≡ counted ++ written (length counted + 1) (map byte_of m) =
+    subst (λ (n : ℕ). new ≡ counted ++ written (n + 1) (map byte_of m)) (sym here) put in
     let long = bytes_length counted new m all in
     field_written extent total old latched counted new f.field m some fit none latch f.words_are all
     (λ after fills. subst (λ (n : ℕ). IsLengthField f.field n after) (sym (length-map m byte_of))

@@ -18,16 +18,17 @@ pub record HasUnit (u : Unit) (items : List Item) (at : ℕ) : Type 0 where
 pub has_unit : (u : Unit) (items : List Item) (at : ℕ) → at < length items → BeginsAscii u items at → HasUnit u items at
 has_unit u items at h1 h2 = grind (arith, nat_tests)
 
--- One turn of the loop.
-pub unit_turn : (u : Unit) (items : List Item) (at : ℕ) (old new : List ℕ) → HasUnit u items at → ascii items ≡ old
+-- One unit more is written.
+pub unit_added : (u : Unit) (items : List Item) (at : ℕ) (total old new : List ℕ) → HasUnit u items at → total ≡ old
     ++ ascii (drop at items) → new ≡ old ++ unit_words u
-    → ascii items ≡ new ++ ascii (drop (at + unit_items u) items)
-unit_turn u items at old new h so_far is = grind (arith, nat_tests, append_assoc, unit_words, ascii, unit_items)
+    → total ≡ new ++ ascii (drop (at + unit_items u) items)
+unit_added u items at total old new h1 h2 h3 = grind (arith, append_assoc, unit_words, unit_items)
 
--- There is room for the unit.
-pub unit_room : (u : Unit) (items : List Item) (at : ℕ) (old : List ℕ) → HasUnit u items at → ascii items ≡ old
-    ++ ascii (drop at items) → length old + length (unit_words u) ≤ length (ascii items)
-unit_room u items at old h so_far = grind (arith, unit_turn, unit_words, length-append, unit_items)
+-- The codewords that are left are so many fewer.
+pub unit_length : (u : Unit) (items : List Item) (at : ℕ) → HasUnit u items at
+    → length (ascii (drop at items)) ≡ length (unit_words u) + length (ascii (drop (at + unit_items u) items))
+unit_length u items at h =
+    omega (arith, ap length h.words, length-append (unit_words u) (ascii (drop (at + unit_items u) items)))
 
 -- Whether FNC1 is among the items is still known after one turn.
 pub fnc1_turn : (u : Unit) (items : List Item) (at : ℕ) (found here : Bool) → HasUnit u items at → here ≡ unit_is_fnc1 u
@@ -35,10 +36,10 @@ pub fnc1_turn : (u : Unit) (items : List Item) (at : ℕ) (found here : Bool) �
     → ((found || here) || has_fnc1 (drop (at + unit_items u) items)) ≡ has_fnc1 items
 fnc1_turn u items at found here h1 h2 h3 = grind (arith, nat_tests)
 
--- At the end the codewords of all items are there.
-pub words_end : (items : List Item) (at : ℕ) (words : List ℕ) → length items ≤ at → ascii items ≡ words
-    ++ ascii (drop at items) → words ≡ ascii items
-words_end items at words le so_far =
+-- At the end all of it is written.
+pub units_end : (items : List Item) (at : ℕ) (total words : List ℕ) → length items ≤ at → total ≡ words
+    ++ ascii (drop at items) → words ≡ total
+units_end items at total words le so_far =
     sym (so_far ∙ at_drop_all (λ (r : List Item). words ++ ascii r) items at le ∙ append-nil words)
 
 -- At the end it is known whether FNC1 is among all items.

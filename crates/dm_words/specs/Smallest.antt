@@ -2,7 +2,8 @@
 -- size of the choice has any that do. This is said by what codewords say, and by all lists of codewords that a size
 -- has; how such codewords are found is no part of it. A content with a head or a mark has none in the usual extent,
 -- where nothing says it.
-use Rattle.std.specs.Prelude.{◌≡◌, ℕ, ◌+◌, ◌-◌, ◌<◌, ◌≤◌, List, length, Result, IfOk, OnOk, IsErr, true, ◌⊎◌}
+use Rattle.std.specs.Prelude.{◌≡◌, ℕ, ◌+◌, ◌-◌, ◌<◌, ◌≤◌, List, [], length, take, Result, Ok, Err, IfOk, OnOk, IsErr}
+use Rattle.std.specs.Prelude.{true, ◌⊎◌}
 use Rattle.dm_layout.specs.declared.symbols.size.SizeChoice.{SizeChoice}
 use Rattle.dm_layout.specs.symbols.Sizes.{SizeEntry, IsSize, takes, area}
 use Rattle.dm_words.specs.declared.extent.Extent.{Extent}
@@ -65,6 +66,12 @@ ArePads words after = after ≡ pads (length words + 1 - length after) (length a
 pub record SaysThenPads (extent : Extent) (words : List ℕ) (content : ContentView) : Type 0 where
   pub says : Says extent words content
   pub pads : ArePads words says.parts.after
+
+-- The words of the size that was chosen stand at the beginning of a target, as many as it has data codewords; there are
+-- none where no size was.
+abbrev pub chosen_words : Result SizeEntry TooLong → List ℕ → List ℕ
+chosen_words (Ok size) target = take size.data_count target
+chosen_words (Err why) target = []
 
 -- What choosing the smallest codewords of a content in an extent gives: the size, with these words, the plainest of it,
 -- with pads behind them; a fault exactly where the codewords of no size of the choice say the content.

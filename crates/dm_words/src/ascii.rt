@@ -1,15 +1,15 @@
 //! The ASCII codewords of a message (ISO/IEC 16022, ASCII encodation).
 
-ghost use Rattle.std.specs.Prelude.{◌≡◌, ◌+◌, ◌≤◌, ◌<◌, ◌++◌, IsTrue, length, true};
+ghost use Rattle.std.specs.Prelude.{◌≡◌, ◌+◌, ◌≤◌, ◌<◌, ◌++◌, IsTrue, length, take, true};
 ghost use Rattle.dm_words.specs.Ascii.{ascii, is_digit, digit_pair};
 ghost use Rattle.dm_words.specs.NormalForm.{has_fnc1};
 ghost use Rattle.dm_words.specs.inner.Scan.Results.{BeginsAscii, IsSingle, unit_words, unit_items, unit_is_fnc1};
 ghost use Rattle.dm_words.specs.inner.Scan.Results.{item_words};
 
 use crate::codeword::{FIRST_DIGITS, FNC1, UPPER_SHIFT};
+use crate::held::add;
 use crate::item::{Item, byte};
 use crate::limits::LARGEST_ROOM;
-use arrayvec::ArrayVec;
 
 /// A unit of ASCII, with its codeword.
 #[derive(Clone, Copy)]
@@ -132,52 +132,61 @@ fn is_fnc1(unit: Unit) -> bool
 }
 
 /// Adds the codewords of a unit, and gives the number of its items.
-pub(crate) fn write_unit<const N: usize>(unit: Unit, words: &mut ArrayVec<u8, N>) -> usize
-    requires { length words.old.items + length (unit_words unit) ≤ N }
-    ensures words { words.new.items ≡ words.old.items ++ unit_words unit }
+pub(crate) fn write_unit(unit: Unit, words: &mut [u8], held: &mut usize) -> usize
+    requires { held.old + length (unit_words unit) ≤ length words.old }
+    ensures words { take held.new words.new ≡ take held.old words.old ++ unit_words unit }
+    ensures counted { held.new ≡ held.old + length (unit_words unit) }
     ensures item_count { result ≡ unit_items unit }
 {
     match unit {
         Unit::One(word) => {
-            words.push(word);
+            add(word, words, held);
             1
         }
         Unit::Digits(word) => {
-            words.push(word);
+            add(word, words, held);
             2
         }
         Unit::Raised(word) => {
-            words.push(UPPER_SHIFT);
-            words.push(word);
+            add(UPPER_SHIFT, words, held);
+            add(word, words, held);
             1
         }
         Unit::Fnc1 => {
-            words.push(FNC1);
+            add(FNC1, words, held);
             1
         }
     }
 }
 
-/// Writes the ASCII codewords of the items into the target: from the left, two digits in one codeword wherever two come
-/// first. Gives what is then known of them.
-pub(crate) fn write_ascii<const N: usize>(items: &[Item], words: &mut ArrayVec<u8, N>) -> AsciiForm
-    requires { length (ascii items.now) ≤ N }
-    ensures words { words.new.items ≡ ascii items.now }
-    ensures length { result.length ≡ length (ascii items.now) }
-    ensures has_fnc1 { result.has_fnc1 ≡ has_fnc1 items.now }
+/// Adds the ASCII codewords of the items: from the left, two digits in one codeword wherever two come first. Says
+/// whether FNC1 is among the items.
+pub(crate) fn add_ascii(items: &[Item], words: &mut [u8], held: &mut usize) -> bool
+    requires { held.old + length (ascii items.now) ≤ length words.old }
+    ensures words { take held.new words.new ≡ take held.old words.old ++ ascii items.now }
+    ensures counted { held.new ≡ held.old + length (ascii items.now) }
+    ensures has_fnc1 { result ≡ has_fnc1 items.now }
 {
-    words.clear();
     let mut has_fnc1 = false;
     let mut at = 0;
     while at < items.len() {
         let unit = unit_at(items, at);
         has_fnc1 |= is_fnc1(unit);
-        at += write_unit(unit, words);
+        at += write_unit(unit, words, held);
     }
-    AsciiForm {
-        length: words.len(),
-        has_fnc1,
-    }
+    has_fnc1
+}
+
+/// Writes the ASCII codewords of the items to the beginning of the target, and gives what is then known of them.
+pub(crate) fn write_ascii(items: &[Item], words: &mut [u8]) -> AsciiForm
+    requires { length (ascii items.now) ≤ length words.old }
+    ensures words { take result.length words.new ≡ ascii items.now }
+    ensures length { result.length ≡ length (ascii items.now) }
+    ensures has_fnc1 { result.has_fnc1 ≡ has_fnc1 items.now }
+{
+    let mut length = 0;
+    let has_fnc1 = add_ascii(items, words, &mut length);
+    AsciiForm { length, has_fnc1 }
 }
 
 /// Whether the ASCII codewords of the items are surely no more than `most`: there are at most half as many items, or at

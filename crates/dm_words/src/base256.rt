@@ -13,7 +13,6 @@ use crate::fault::WordFault;
 use crate::held::add;
 use crate::item::{Item, byte};
 use crate::limits::LARGEST_ROOM;
-use arrayvec::ArrayVec;
 use dm_layout::symbols::MOST_DATA;
 
 /// The most bytes whose length is one number.
@@ -94,30 +93,32 @@ pub(crate) fn segment_part(
     Ok(count + 3)
 }
 
-/// Writes a value as the next codeword of a symbol that begins with these words.
-pub(crate) fn push_value<const N: usize>(words: &mut ArrayVec<u8, N>, value: u8)
-    requires room { length words.old.items < N }
-    requires most { N ≤ MOST_DATA }
-    ensures { words.new.items
-        ≡ words.old.items ++ randomised (length words.old.items + 1) value ∷ [] }
+/// Adds a value as the next codeword of a symbol that begins with the words.
+pub(crate) fn push_value(value: u8, words: &mut [u8], held: &mut usize)
+    requires room { held.old < length words.old }
+    requires short { length words.old ≤ MOST_DATA }
+    ensures added { take held.new words.new
+        ≡ take held.old words.old ++ randomised (held.old + 1) value ∷ [] }
+    ensures counted { held.new ≡ held.old + 1 }
 {
-    let place = words.len() + 1;
-    words.push(((value as u32 + random(place)) % 256) as u8);
+    let place = *held + 1;
+    add(((value as u32 + random(place)) % 256) as u8, words, held);
 }
 
-/// Writes the length field for this many bytes: one number up to `MOST_SHORT`, else two.
-pub(crate) fn push_length<const N: usize>(words: &mut ArrayVec<u8, N>, count: usize)
-    requires room { length words.old.items + 2 ≤ N }
+/// Adds the length field for this many bytes: one number up to `MOST_SHORT`, else two.
+pub(crate) fn push_length(count: usize, words: &mut [u8], held: &mut usize)
+    requires room { held.old + 2 ≤ length words.old }
     requires few { count ≤ MOST_DATA }
-    requires most { N ≤ MOST_DATA }
-    ensures { words.new.items
-        ≡ words.old.items ++ written (length words.old.items + 1) (length_numbers count) }
+    requires short { length words.old ≤ MOST_DATA }
+    ensures added { take held.new words.new
+        ≡ take held.old words.old ++ written (held.old + 1) (length_numbers count) }
+    ensures counted { held.new ≡ held.old + length (length_numbers count) }
 {
     if count <= MOST_SHORT {
-        push_value(words, count as u8);
+        push_value(count as u8, words, held);
     } else {
-        push_value(words, (MOST_SHORT + count / (MOST_SHORT + 1)) as u8);
-        push_value(words, (count % (MOST_SHORT + 1)) as u8);
+        push_value((MOST_SHORT + count / (MOST_SHORT + 1)) as u8, words, held);
+        push_value((count % (MOST_SHORT + 1)) as u8, words, held);
     }
 }
 
@@ -147,29 +148,32 @@ fn next_random(number: u32) -> u32
     }
 }
 
-/// Writes the bytes of the items, in one segment whose latch is the first codeword of the symbol, into the target.
-pub(crate) fn write_segment<const N: usize>(items: &[Item], words: &mut ArrayVec<u8, N>)
-    requires fits { length (one_segment (map byte_of items.now)) ≤ N }
-    requires least { 3 ≤ N }
-    requires most { N ≤ MOST_DATA }
-    ensures { words.new.items ≡ one_segment (map byte_of items.now) }
+/// Writes the bytes of the items, in one segment whose latch is the first codeword of the symbol, to the beginning of
+/// the target.
+pub(crate) fn write_segment(items: &[Item], words: &mut [u8])
+    requires fits { length (one_segment (map byte_of items.now)) ≤ length words.old }
+    requires least { 3 ≤ length words.old }
+    requires short { length words.old ≤ MOST_DATA }
+    ensures { take (length (one_segment (map byte_of items.now))) words.new
+        ≡ one_segment (map byte_of items.now) }
 {
-    words.clear();
-    words.push(BASE256_LATCH);
-    push_length(words, items.len());
-    write_bytes(items, words);
+    let mut held = 0;
+    add(BASE256_LATCH, words, &mut held);
+    push_length(items.len(), words, &mut held);
+    write_bytes(items, words, &mut held);
 }
 
-/// Writes the bytes of the items, as the next codewords of a symbol that begins with these words.
-pub(crate) fn write_bytes<const N: usize>(items: &[Item], words: &mut ArrayVec<u8, N>)
-    requires room { length words.old.items + length items.now ≤ N }
-    requires most { N ≤ MOST_DATA }
-    ensures { words.new.items
-        ≡ words.old.items ++ written (length words.old.items + 1) (map byte_of items.now) }
+/// Adds the bytes of the items, as the next codewords of a symbol that begins with the words.
+pub(crate) fn write_bytes(items: &[Item], words: &mut [u8], held: &mut usize)
+    requires room { held.old + length items.now ≤ length words.old }
+    requires short { length words.old ≤ MOST_DATA }
+    ensures added { take held.new words.new
+        ≡ take held.old words.old ++ written (held.old + 1) (map byte_of items.now) }
+    ensures counted { held.new ≡ held.old + length items.now }
 {
-    let mut number = random(words.len() + 1);
+    let mut number = random(*held + 1);
     for item in items {
-        words.push(((byte(*item) as u32 + number) % 256) as u8);
+        add(((byte(*item) as u32 + number) % 256) as u8, words, held);
         number = next_random(number);
     }
 }

@@ -5,14 +5,13 @@
 //! Reading: [`message_of()`] gives the [`Message`] of [`Item`]s that a list spells in the usual extent, or the
 //! [`WordFault`] with which the list is refused; [`message_to()`] reads the message into a target.
 //!
-//! Writing: [`normal_words_in()`] writes the codewords of a message under a [`Profile`] into a target, or says that
+//! Writing: [`normal_words_to()`] writes the codewords of a message under a [`Profile`] into a target, or says that
 //! they are [`TooLong`]. Under one profile they are ASCII ([`ascii_words()`]), under the other whatever is shorter,
 //! ASCII or one segment of Base 256 ([`shorter_words()`]). [`padded()`] gives codewords with pads up to the data
-//! codewords of a size; [`add_pads()`] adds the pads in a target, and [`pad_to()`] in one of any room up to
-//! [`MOST_DATA`] codewords, for symbols that are no squares or larger ones.
+//! codewords of a size; [`add_pads()`] adds them in a target, up to its end.
 //!
 //! Contents: [`content_to_as()`] reads the [`Content`] that a list says in an extent into a target, which is a [`Head`]
-//! or none, items and [`Mark`]s, or gives the [`ContentFault`] with which the list is refused. [`content_words_in()`]
+//! or none, items and [`Mark`]s, or gives the [`ContentFault`] with which the list is refused. [`content_words_to()`]
 //! writes the codewords of a content, and [`smallest_words_to()`] some of the smallest size of a choice that has any
 //! that say it in an extent. [`designations_to()`] tells where the designators of a content stand among its codewords,
 //! and [`eci_count()`] how many there may be.
@@ -54,7 +53,7 @@ pub use contents::designator::MOST_ASSIGNED;
 pub use contents::fault::ContentFault;
 pub use contents::head::{Appended, Head};
 pub use contents::mark::Mark;
-pub use contents::normal_form::content_words_in;
+pub use contents::normal_form::content_words_to;
 pub use contents::reading::content_to_as;
 pub use contents::symbology::symbology_number;
 pub use dm_layout::MOST_GRID_DATA;
@@ -64,8 +63,8 @@ pub use fault::{TooLong, WordFault};
 pub use item::Item;
 pub use limits::{LARGEST_MARKS, LARGEST_ROOM, MESSAGE_ROOM, MOST_ITEMS, MOST_MARKS};
 pub use message::{Message, MessageIn};
-pub use normal_form::{ascii_words, normal_words_in, shorter_words};
-pub use pad::{add_pads, pad_to, padded};
+pub use normal_form::{ascii_words, normal_words_to, shorter_words};
+pub use pad::{add_pads, padded};
 pub use profile::Profile;
 pub use reading::{message_of, message_to};
 pub use smallest::smallest_words_to;

@@ -1,7 +1,7 @@
 //! The normal form of a message under a profile: its data codewords, without pads.
 
-ghost use Rattle.std.specs.Prelude.{◌≡◌, ◌<◌, ◌≤◌, ◌↔◌, length, map, false, not, ◌&&◌, if◌then◌else◌, nat_lt, IfOk};
-ghost use Rattle.std.specs.Prelude.{OnOk, OnErr, IsErr, IsTrue};
+ghost use Rattle.std.specs.Prelude.{◌≡◌, ◌<◌, ◌≤◌, ◌↔◌, length, take, map, false, not, ◌&&◌, if◌then◌else◌, nat_lt};
+ghost use Rattle.std.specs.Prelude.{IfOk, OnErr, IsErr, IsTrue};
 ghost use Rattle.dm_words.specs.Ascii.{ascii};
 ghost use Rattle.dm_words.specs.NormalForm.{shorter, normal_form, one_segment, has_fnc1};
 ghost use Rattle.dm_words.specs.Results.{IsNormalFormResult};
@@ -13,6 +13,7 @@ ghost use Rattle.dm_words.specs.Plain.{IsPlainWithPads};
 use crate::ascii::{AsciiForm, ascii_form, surely_fits, write_ascii};
 use crate::base256::{segment_length, write_segment};
 use crate::fault::TooLong;
+use crate::held::list_of;
 use crate::item::Item;
 use crate::limits::LARGEST_ROOM;
 use crate::message::Message;
@@ -43,65 +44,61 @@ pub fn shorter_words(message: &Message) -> Result<ArrayVec<u8, MOST_GRID_DATA>, 
 fn words_of(profile: Profile, message: &Message) -> Result<ArrayVec<u8, MOST_GRID_DATA>, TooLong>
     ensures { IsNormalFormResult profile message.now result }
 {
-    let mut words = ArrayVec::new();
-    match normal_words_in(profile, message.items(), &mut words) {
-        Ok(()) => Ok(words),
+    let mut words = [0; MOST_GRID_DATA];
+    match normal_words_to(profile, message.items(), &mut words) {
+        Ok(count) => Ok(list_of(&words[..count])),
         Err(TooLong) => Err(TooLong),
     }
 }
 
 /// Writes the codewords of a message of at most [`LARGEST_ROOM`] items under a profile, those of [`ascii_words()`] or
-/// of [`shorter_words()`], into a target with room for `N` codewords, at least 3 as each symbol has. After `Ok`,
-/// `words` holds these codewords, whatever it held before. `TooLong` exactly where they are more than `N`; then it
-/// holds what it held before. Under [`Profile::Shorter`] this does the same work as under [`Profile::Ascii`], except
-/// that it may write a segment too, or instead of ASCII.
-pub fn normal_words_in<const N: usize>(
-    profile: Profile,
-    items: &[Item],
-    words: &mut ArrayVec<u8, N>,
-) -> Result<(), TooLong>
+/// of [`shorter_words()`], to the beginning of a target with room for at least 3 codewords, as each symbol has, and
+/// gives their number. `TooLong` exactly where there is no room for them; then the target is as it was. Under
+/// [`Profile::Shorter`] this does the same work as under [`Profile::Ascii`], except that it may write a segment too, or
+/// instead of ASCII.
+pub fn normal_words_to(profile: Profile, items: &[Item], words: &mut [u8]) -> Result<usize, TooLong>
     requires few { length items.now ≤ LARGEST_ROOM }
-    requires least { 3 ≤ N }
-    requires most { N ≤ MOST_DATA }
-    ensures form { OnOk result (words.new.items ≡ normal_form profile items.now) }
-    ensures too_long { IsErr result ↔ (N < length (normal_form profile items.now)) }
-    ensures same { OnErr result (words.new.items ≡ words.old.items) }
-    ensures plain { OnOk result (IsMessage items.now → IsPlainWithPads words.new.items (as_content items.now)) }
+    requires least { 3 ≤ length words.old }
+    requires most { length words.old ≤ MOST_DATA }
+    ensures form { IfOk result (λ count. take count words.new ≡ normal_form profile items.now) }
+    ensures fits { IfOk result (λ count. count ≤ length words.new) }
+    ensures too_long { IsErr result ↔ (length words.old < length (normal_form profile items.now)) }
+    ensures same { OnErr result (words.new ≡ words.old) }
+    ensures plain { IfOk result (λ count. IsMessage items.now
+        → IsPlainWithPads (take count words.new) (as_content items.now)) }
 {
-    if !surely_fits(items, N) {
+    if !surely_fits(items, words.len()) {
         return write_counted(profile, items, words);
     }
-    let ascii = write_ascii(items, words);
-    if form_of(profile, items, ascii).is_segment {
+    let form = form_of(profile, items, write_ascii(items, words));
+    if form.is_segment {
         write_segment(items, words);
     }
-    Ok(())
+    Ok(form.length)
 }
 
-/// Does the same as [`normal_words_in()`], but counts the codewords before it writes any.
-fn write_counted<const N: usize>(
-    profile: Profile,
-    items: &[Item],
-    words: &mut ArrayVec<u8, N>,
-) -> Result<(), TooLong>
+/// Does the same as [`normal_words_to()`], but counts the codewords before it writes any.
+fn write_counted(profile: Profile, items: &[Item], words: &mut [u8]) -> Result<usize, TooLong>
     requires few { length items.now ≤ LARGEST_ROOM }
-    requires least { 3 ≤ N }
-    requires most { N ≤ MOST_DATA }
-    ensures form { OnOk result (words.new.items ≡ normal_form profile items.now) }
-    ensures too_long { IsErr result ↔ (N < length (normal_form profile items.now)) }
-    ensures same { OnErr result (words.new.items ≡ words.old.items) }
-    ensures plain { OnOk result (IsMessage items.now → IsPlainWithPads words.new.items (as_content items.now)) }
+    requires least { 3 ≤ length words.old }
+    requires most { length words.old ≤ MOST_DATA }
+    ensures form { IfOk result (λ count. take count words.new ≡ normal_form profile items.now) }
+    ensures fits { IfOk result (λ count. count ≤ length words.new) }
+    ensures too_long { IsErr result ↔ (length words.old < length (normal_form profile items.now)) }
+    ensures same { OnErr result (words.new ≡ words.old) }
+    ensures plain { IfOk result (λ count. IsMessage items.now
+        → IsPlainWithPads (take count words.new) (as_content items.now)) }
 {
     let form = form_of(profile, items, ascii_form(items));
-    if form.length > N {
+    if form.length > words.len() {
         return Err(TooLong);
     }
     if form.is_segment {
         write_segment(items, words);
     } else {
-        write_ascii(items, words);
+        let _same = write_ascii(items, words);
     }
-    Ok(())
+    Ok(form.length)
 }
 
 /// What is known of a normal form before it is written.

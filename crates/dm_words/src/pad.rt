@@ -1,9 +1,10 @@
 //! Pads (ISO/IEC 16022, pad character).
 
-ghost use Rattle.std.specs.Prelude.{◌≡◌, ◌≤◌, length};
+ghost use Rattle.std.specs.Prelude.{◌≡◌, ◌≤◌, length, take};
 ghost use Rattle.dm_words.specs.Pads.{padded, pad_at};
 
 use crate::codeword::{FIRST_PAD, RANDOM_FACTOR};
+use crate::held::{add, list_of};
 use arrayvec::ArrayVec;
 use dm_layout::symbols::MOST_DATA;
 use dm_layout::{MOST_GRID_DATA, Size};
@@ -28,37 +29,25 @@ pub fn padded(words: &[u8], size: Size) -> ArrayVec<u8, MOST_GRID_DATA>
     ensures words { result.items ≡ padded words.now size.data_count }
     ensures count { length result.items ≡ size.data_count }
 {
-    // For the proof alone: what `data_count` ensures says that the codewords fit.
-    let _most = size.data_count();
-    let mut all = ArrayVec::new();
-    let _room = all.try_extend_from_slice(words);
-    add_pads(&mut all, size);
-    all
+    let mut all = [0; MOST_GRID_DATA];
+    let data = &mut all[..usize::from(size.data_count())];
+    data[..words.len()].copy_from_slice(words);
+    add_pads(data, words.len());
+    list_of(data)
 }
 
-/// Adds pads to the words of a message, as [`padded()`] does, where they stand.
-pub fn add_pads(words: &mut ArrayVec<u8, MOST_GRID_DATA>, size: Size)
-    requires { length words.old.items ≤ size.data_count }
-    ensures words { words.new.items ≡ padded words.old.items size.data_count }
-    ensures count { length words.new.items ≡ size.data_count }
+/// Adds pads to the first `held` codewords of a list, those of a message, up to its end: the first pad is 129, each
+/// further one is randomised by its place.
+pub fn add_pads(words: &mut [u8], held: usize)
+    requires fits { held ≤ length words.old }
+    requires most { length words.old ≤ MOST_DATA }
+    ensures { words.new ≡ padded (take held words.old) (length words.old) }
 {
-    pad_to(words, size.data_count() as usize);
-}
-
-/// Adds pads to the words of a message, up to `count` codewords, where they stand: the first pad is 129, each further
-/// one is randomised by its place.
-pub fn pad_to<const N: usize>(words: &mut ArrayVec<u8, N>, count: usize)
-    requires fits { length words.old.items ≤ count }
-    requires room { count ≤ N }
-    requires most { count ≤ MOST_DATA }
-    ensures words { words.new.items ≡ padded words.old.items count }
-    ensures count { length words.new.items ≡ count }
-{
-    let used = words.len();
-    if used < count {
-        words.push(FIRST_PAD);
-        for place in used + 2..count + 1 {
-            words.push(pad_word(place as u16));
+    let mut held = held;
+    if held < words.len() {
+        add(FIRST_PAD, words, &mut held);
+        while held < words.len() {
+            add(pad_word(held as u16 + 1), words, &mut held);
         }
     }
 }

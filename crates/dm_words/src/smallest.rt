@@ -1,7 +1,7 @@
 //! The smallest symbol of a content: data codewords that say it, of the smallest size of a choice that has any. A
 //! content with a head or marks is written in [`contents`], and a message here.
 
-ghost use Rattle.std.specs.Prelude.{◌≡◌, ◌<◌, ◌≤◌, OnErr, OnOk, IsTrue, None, [], length};
+ghost use Rattle.std.specs.Prelude.{◌≡◌, ◌<◌, ◌≤◌, OnErr, OnOk, IsTrue, None, [], length, take};
 ghost use Rattle.dm_words.specs.declared.extent.Extent.TheVariants.{Usual};
 ghost use Rattle.dm_words.specs.Ascii.{ascii};
 ghost use Rattle.dm_words.specs.Heads.{IsHead};
@@ -11,6 +11,7 @@ ghost use Rattle.dm_words.specs.Messages.{IsMessage};
 ghost use Rattle.dm_words.specs.Outcomes.{outcome};
 ghost use Rattle.dm_words.specs.Pads.{padded};
 ghost use Rattle.dm_words.specs.Smallest.{IsPlainestContent, IsSmallestContentResult, SaysThenPads};
+ghost use Rattle.dm_words.specs.Smallest.{chosen_words};
 ghost use Rattle.dm_words.specs.inner.Costs.{at_end, parts_cost, IsRightPlan};
 ghost use Rattle.dm_words.specs.inner.ContentCosts.{view_of};
 ghost use Rattle.dm_words.specs.inner.Ways.{AreWritten, IsLeastCost, IsMacroOf, IsWay, inner_text, text_of};
@@ -32,15 +33,15 @@ use crate::contents::mark::Mark;
 use crate::contents::normal_form::is_plain;
 use crate::extent::Extent;
 use crate::fault::TooLong;
+use crate::held::add;
 use crate::item::Item;
 use crate::limits::{LARGEST_MARKS, LARGEST_ROOM};
 use crate::macros::{HEADER_LENGTH, TRAILER_LENGTH, macro_of};
-use crate::pad::pad_to;
+use crate::pad::add_pads;
 use crate::smallest::contents::smallest_marked_to;
 use crate::smallest::parts::write_parts;
 use crate::smallest::plan::{StepBits, plan_to};
 use crate::smallest::setting::Setting;
-use arrayvec::ArrayVec;
 use dm_layout::symbols::{MOST_DATA, SizeChoice, SymbolSize};
 
 /// How many steps the plan of a short message has: one for each item, and one behind the last.
@@ -61,11 +62,11 @@ const SOME_MARKS: usize = 102;
 /// Chooses data codewords, with pads, that say a content in an extent, in the smallest size of the choice that has any:
 /// no list of codewords of a smaller size says it there, but for lists that have a macro before FNC1. The content has
 /// this head or none, these items, at most [`LARGEST_ROOM`], and these marks, at most [`LARGEST_MARKS`]; a message is
-/// one without a head and marks. After `Ok`, which has that size, `words` holds them, whatever it held before. They are
+/// one without a head and marks. After `Ok`, which has that size, they stand at the beginning of `words`. They are
 /// plain, and their symbology identifier is that of the ASCII form. They are the content in ASCII, as under
 /// [`Profile::Ascii`](crate::Profile::Ascii), where the size has room for that; else codewords that say the content in
 /// the usual extent, where there are any. `TooLong` exactly where the codewords of no size of the choice say the
-/// content, as in the usual extent those of no size say a head or a mark; then `words` holds what it held before.
+/// content, as in the usual extent those of no size say a head or a mark; then `words` is as it was.
 /// ISO/IEC 16022, encodation schemes, ECI encodation, structured append, reader programming.
 pub fn smallest_words_to(
     extent: Extent,
@@ -73,17 +74,17 @@ pub fn smallest_words_to(
     items: &[Item],
     marks: &[Mark],
     choice: SizeChoice,
-    words: &mut ArrayVec<u8, MOST_DATA>,
+    words: &mut [u8; MOST_DATA],
 ) -> Result<SymbolSize, TooLong>
     requires head { IsHead head }
     requires few { length items.now ≤ LARGEST_ROOM }
     requires few_marks { length marks.now ≤ LARGEST_MARKS }
     requires in_order { AreMarks 0 (length items.now) marks.now }
     ensures smallest { IsSmallestContentResult extent choice
-        (record { head = head; items = items.now; marks = marks.now }) result words.new.items }
+        (record { head = head; items = items.now; marks = marks.now }) result (chosen_words result words.new) }
     ensures message_items { head ≡ None → marks.now ≡ [] → IsMessage items.now }
     ensures items { OnOk result (IsMessage items.now) }
-    ensures same { OnErr result (words.new.items ≡ words.old.items) }
+    ensures same { OnErr result (words.new ≡ words.old) }
 {
     // To clear room for a long plan takes longer than to make a short one.
     if items.len() < SHORT_PLAN && marks.len() <= FEW_MARKS {
@@ -104,7 +105,7 @@ fn smallest_in<const STEPS: usize, const MARKS: usize>(
     items: &[Item],
     marks: &[Mark],
     choice: SizeChoice,
-    words: &mut ArrayVec<u8, MOST_DATA>,
+    words: &mut [u8; MOST_DATA],
 ) -> Result<SymbolSize, TooLong>
     requires head { IsHead head }
     requires few { length items.now ≤ LARGEST_ROOM }
@@ -114,10 +115,11 @@ fn smallest_in<const STEPS: usize, const MARKS: usize>(
     requires most { STEPS ≤ LONG_PLAN }
     requires room { length marks.now ≤ MARKS }
     requires most_marks { MARKS ≤ LARGEST_MARKS }
-    ensures smallest { IsSmallestContentResult extent choice (view_of head items.now marks.now) result words.new.items }
+    ensures smallest { IsSmallestContentResult extent choice (view_of head items.now marks.now) result
+        (chosen_words result words.new) }
     ensures message_items { head ≡ None → marks.now ≡ [] → IsMessage items.now }
     ensures items { OnOk result (IsMessage items.now) }
-    ensures same { OnErr result (words.new.items ≡ words.old.items) }
+    ensures same { OnErr result (words.new ≡ words.old) }
 {
     let mut plan = [StepBits::NONE; STEPS];
     let mut behind = [0; MARKS];
@@ -144,21 +146,22 @@ fn smallest_items_to(
     items: &[Item],
     choice: SizeChoice,
     plan: &mut [StepBits],
-    words: &mut ArrayVec<u8, MOST_DATA>,
+    words: &mut [u8; MOST_DATA],
 ) -> Result<SymbolSize, TooLong>
     requires few { length items.now ≤ LARGEST_ROOM }
     requires steps { length items.now < length plan.old }
-    ensures smallest { IsSmallestContentResult extent choice (as_content items.now) result words.new.items }
+    ensures smallest { IsSmallestContentResult extent choice (as_content items.now) result
+        (chosen_words result words.new) }
     ensures message { IsMessage items.now }
-    ensures same { OnErr result (words.new.items ≡ words.old.items) }
+    ensures same { OnErr result (words.new ≡ words.old) }
 {
     let found = least_way(extent, items, plan);
     match SymbolSize::for_words(choice, found.way.cost) {
         None => Err(TooLong),
         Some(size) => {
-            let count = size.data_count();
-            write_plainest(extent, items, found, plan, words, count);
-            pad_to(words, usize::from(count));
+            let data = &mut words[..usize::from(size.data_count())];
+            let held = write_plainest(extent, items, found, plan, data);
+            add_pads(data, held);
             Ok(size)
         }
     }
@@ -242,130 +245,121 @@ fn inner(items: &[Item]) -> &[Item]
     &items[HEADER_LENGTH..items.len() - TRAILER_LENGTH]
 }
 
-/// Writes the items, without pads, for a symbol of `count` data codewords: in ASCII where there is room for that;
-/// else as the usual extent has it, where there is room for that; else in this way, by its plan.
+/// Writes the items, without pads, to the beginning of the data codewords of a symbol, and gives how many codewords they
+/// take: in ASCII where there is room for that; else as the usual extent has it, where there is room for that; else in
+/// this way, by its plan.
 fn write_plainest(
     extent: Extent,
     items: &[Item],
     found: Found,
     plan: &mut [StepBits],
-    words: &mut ArrayVec<u8, MOST_DATA>,
-    count: u16,
-)
+    words: &mut [u8],
+) -> usize
     requires few { length items.now ≤ LARGEST_ROOM }
     requires message { IsMessage items.now }
     requires way { IsWay extent items.now found.way.macro_word found.way.cost }
     requires ascii { found.ascii ≡ length (ascii items.now) }
     requires steps { length items.now < length plan.old }
     requires plan { IsRightPlan (at_end extent) (text_of found.way.macro_word items.now) plan.old }
-    requires room { found.way.cost ≤ count }
-    requires count { count ≤ MOST_DATA }
-    ensures written { AreWritten extent (padded words.new.items count) (as_content items.now) }
-    ensures fits { length words.new.items ≤ count }
-    ensures plainest { IsPlainestContent (padded words.new.items count) (as_content items.now) }
+    requires room { found.way.cost ≤ length words.old }
+    requires short { length words.old ≤ MOST_DATA }
+    ensures written { AreWritten extent (padded (take result words.new) (length words.old)) (as_content items.now) }
+    ensures fits { result ≤ length words.old }
+    ensures plainest { IsPlainestContent (padded (take result words.new) (length words.old))
+        (as_content items.now) }
 {
-    if found.ascii <= count {
-        let _form = write_ascii(items, words);
-        return;
+    if usize::from(found.ascii) <= words.len() {
+        return write_ascii(items, words).length;
     }
-    let is_usual = write_way(extent, items, found.way, plan, words, count);
+    let mut held = 0;
+    let is_usual = write_way(extent, items, found.way, plan, words, &mut held);
     if !is_usual {
-        write_usual_if_fits(extent, items, plan, words, count);
+        write_usual_if_fits(extent, items, plan, words, &mut held);
     }
+    held
 }
 
-/// Writes the items, without pads, as the usual extent has it, in place of the words that stand there, where a symbol
-/// of `count` data codewords has room for that. The plan is made anew.
+/// Writes the items, without pads, as the usual extent has it, in place of the words that stand there, where there is
+/// room for that. The plan is made anew.
 fn write_usual_if_fits(
     extent: Extent,
     items: &[Item],
     plan: &mut [StepBits],
-    words: &mut ArrayVec<u8, MOST_DATA>,
-    count: u16,
+    words: &mut [u8],
+    held: &mut usize,
 )
     requires few { length items.now ≤ LARGEST_ROOM }
     requires steps { length items.now < length plan.old }
     requires message { IsMessage items.now }
-    requires count { count ≤ MOST_DATA }
-    requires no_ascii { count < length (ascii items.now) }
-    requires written { AreWritten extent (padded words.old.items count) (as_content items.now) }
-    requires fits { length words.old.items ≤ count }
-    ensures written { AreWritten extent (padded words.new.items count) (as_content items.now) }
-    ensures fits { length words.new.items ≤ count }
-    ensures plainest { IsPlainestContent (padded words.new.items count) (as_content items.now) }
+    requires short { length words.old ≤ MOST_DATA }
+    requires no_ascii { length words.old < length (ascii items.now) }
+    requires written { AreWritten extent (padded (take held.old words.old) (length words.old)) (as_content items.now) }
+    requires fits { held.old ≤ length words.old }
+    ensures written { AreWritten extent (padded (take held.new words.new) (length words.old)) (as_content items.now) }
+    ensures fits { held.new ≤ length words.old }
+    ensures plainest { IsPlainestContent (padded (take held.new words.new) (length words.old)) (as_content items.now) }
 {
     // In the usual extent a codeword spells at most two items.
-    if 2 * usize::from(count) < items.len() {
+    if 2 * words.len() < items.len() {
         return;
     }
-    if plan_to(Setting::at_end(Extent::Usual), items, plan).least <= count {
-        let _usual = write_plain(Extent::Usual, items, plan, words, count);
+    if usize::from(plan_to(Setting::at_end(Extent::Usual), items, plan).least) <= words.len() {
+        *held = 0;
+        let _usual = write_plain(Extent::Usual, items, plan, words, held);
     }
 }
 
-/// Writes the items in this way, by its plan, without pads, for a symbol of `count` data codewords, and says whether
-/// the usual extent surely reads them.
+/// Writes the items in this way, by its plan, without pads, and says whether the usual extent surely reads them.
 fn write_way(
     extent: Extent,
     items: &[Item],
     way: Way,
     plan: &[StepBits],
-    words: &mut ArrayVec<u8, MOST_DATA>,
-    count: u16,
+    words: &mut [u8],
+    held: &mut usize,
 ) -> bool
     requires few { length items.now ≤ LARGEST_ROOM }
     requires message { IsMessage items.now }
     requires way { IsWay extent items.now way.macro_word way.cost }
     requires steps { length items.now < length plan.now }
     requires plan { IsRightPlan (at_end extent) (text_of way.macro_word items.now) plan.now }
-    requires room { way.cost ≤ count }
-    requires count { count ≤ MOST_DATA }
-    ensures written { AreWritten extent (padded words.new.items count) (as_content items.now) }
-    ensures usual { IsTrue result → SaysThenPads Usual (padded words.new.items count) (as_content items.now) }
-    ensures fits { length words.new.items ≤ count }
+    requires room { way.cost ≤ length words.old }
+    requires short { length words.old ≤ MOST_DATA }
+    requires none { held.old ≡ 0 }
+    ensures written { AreWritten extent (padded (take held.new words.new) (length words.old)) (as_content items.now) }
+    ensures usual { IsTrue result
+        → SaysThenPads Usual (padded (take held.new words.new) (length words.old)) (as_content items.now) }
+    ensures fits { held.new ≤ length words.old }
 {
     match way.macro_word {
-        None => write_plain(extent, items, plan, words, count),
+        None => write_plain(extent, items, plan, words, held),
         Some(word) => {
-            words.clear();
-            words.push(word);
-            let _usual = write_parts(
-                Setting::at_end(extent),
-                inner(items),
-                plan,
-                words,
-                usize::from(count),
-            );
+            add(word, words, held);
+            let _usual = write_parts(Setting::at_end(extent), inner(items), plan, words, held);
             false
         }
     }
 }
 
-/// Writes the items by no macro, by their plan, without pads, for a symbol of `count` data codewords, and says whether
-/// the usual extent surely reads them.
+/// Writes the items by no macro, by their plan, without pads, and says whether the usual extent surely reads them.
 fn write_plain(
     extent: Extent,
     items: &[Item],
     plan: &[StepBits],
-    words: &mut ArrayVec<u8, MOST_DATA>,
-    count: u16,
+    words: &mut [u8],
+    held: &mut usize,
 ) -> bool
     requires few { length items.now ≤ LARGEST_ROOM }
     requires message { IsMessage items.now }
     requires steps { length items.now < length plan.now }
     requires plan { IsRightPlan (at_end extent) items.now plan.now }
-    requires room { parts_cost (at_end extent) items.now ≤ count }
-    requires count { count ≤ MOST_DATA }
-    ensures written { AreWritten extent (padded words.new.items count) (as_content items.now) }
-    ensures usual { IsTrue result → SaysThenPads Usual (padded words.new.items count) (as_content items.now) }
-    ensures fits { length words.new.items ≤ count }
+    requires room { parts_cost (at_end extent) items.now ≤ length words.old }
+    requires short { length words.old ≤ MOST_DATA }
+    requires none { held.old ≡ 0 }
+    ensures written { AreWritten extent (padded (take held.new words.new) (length words.old)) (as_content items.now) }
+    ensures usual { IsTrue result
+        → SaysThenPads Usual (padded (take held.new words.new) (length words.old)) (as_content items.now) }
+    ensures fits { held.new ≤ length words.old }
 {
-    words.clear();
-    write_parts(
-        Setting::at_end(extent),
-        items,
-        plan,
-        words,
-        usize::from(count),
-    )
+    write_parts(Setting::at_end(extent), items, plan, words, held)
 }

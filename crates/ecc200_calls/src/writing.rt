@@ -15,7 +15,6 @@ use crate::mark::{MarkNumbers, NO_MARK, first_wrong, put_marks_of};
 use crate::message::{ItemNumber, first_foreign, put_items_of};
 use crate::room::*;
 use crate::symbol::{SymbolOut, show_fault, show_symbol};
-use arrayvec::ArrayVec;
 use dm_layout::symbols::{MOST_DATA, SizeChoice, SymbolIn, SymbolSize, SymbolWordsIn};
 use dm_symbol::{Form, Head, Item, Mark, TooLong, WriteOptions, choose_words_to, lay_words_to};
 
@@ -163,7 +162,7 @@ fn write_content_of<N: ItemNumber, const ITEMS: usize, const MARKS: usize>(
     write_content(head, items, marks, how, out);
 }
 
-/// Shows the symbol in which a content is written, or that it fits no size of the choice, in a room that serves for it.
+/// Shows the symbol in which a content is written, or that it fits no size of the choice.
 #[inline(never)]
 pub(crate) fn write_content(
     head: Option<Head>,
@@ -179,15 +178,24 @@ pub(crate) fn write_content(
     ensures { IsContentGiven how.form how.size
         (record { head = head; items = items.now; marks = marks.now }) out.old out.new }
 {
-    let mut list = ArrayVec::<u8, MOST_DATA>::new();
+    let mut list = [0; MOST_DATA];
     match choose_words_to(head, items, marks, how, &mut list) {
-        Ok(size) => in_room!(Room::of(size), show_words::<ROWS, WORDS>(size, &list, out)),
+        Ok(size) => show_chosen(size, &list[..usize::from(size.data_count())], out),
         Err(TooLong) => show_fault(out, Fault::too_long()),
     }
 }
 
-/// Shows the symbol of data codewords of a size, in a room that serves for it. It stands by itself, so that no other
-/// room is left for it on the stack.
+/// Shows the symbol of data codewords of a size, in a room that serves for it.
+fn show_chosen(size: SymbolSize, list: &[u8], out: &mut SymbolOut)
+    requires { length list.now ≡ size.data_count }
+    ensures { (form : Form) (choice : SizeChoice) (content : ContentView)
+        → AreChosen form choice content size list.now
+        → IsContentGiven form choice content out.old out.new }
+{
+    in_room!(Room::of(size), show_words::<ROWS, WORDS>(size, list, out))
+}
+
+/// Does so in this room. It stands by itself, so that no other room is left for it on the stack.
 #[inline(never)]
 fn show_words<const ROWS: usize, const WORDS: usize>(
     size: SymbolSize,

@@ -1,6 +1,6 @@
 //! Writing a content in a symbol: in the smallest size of a choice.
 
-ghost use Rattle.std.specs.Prelude.{◌≡◌, ◌≤◌, ℕ, List, IfOk, Ok, Err, OnErr, OnOk, length};
+ghost use Rattle.std.specs.Prelude.{◌≡◌, ◌≤◌, ℕ, List, IfOk, Ok, Err, OnErr, OnOk, length, take};
 ghost use Rattle.dm_layout.specs.symbols.Holding.{IsLaid};
 ghost use Rattle.dm_layout.specs.symbols.Sizes.{IsSize, SizeEntry, codeword_count};
 ghost use Rattle.dm_words.specs.Heads.{IsHead};
@@ -11,14 +11,13 @@ ghost use Rattle.dm_symbol.specs.PlainSymbol.{IsPlainSymbol};
 ghost use Rattle.dm_symbol.specs.SymbolBlocks.{AreCodewordsOf, first_data, words_with};
 ghost use Rattle.dm_symbol.specs.WrittenContent.{AreChosen, IsWrittenAs};
 
-use crate::symbol::writing::complete_with;
-use arrayvec::ArrayVec;
+use crate::symbol::writing::complete_in;
 use dm_layout::symbols::{
     MOST_DATA, SizeChoice, Symbol, SymbolIn, SymbolSize, SymbolWords, SymbolWordsIn, lay_to,
 };
 use dm_words::{
-    Extent, Head, Item, LARGEST_MARKS, LARGEST_ROOM, Mark, Profile, TooLong, content_words_in,
-    pad_to, smallest_words_to,
+    Extent, Head, Item, LARGEST_MARKS, LARGEST_ROOM, Mark, Profile, TooLong, add_pads,
+    content_words_to, smallest_words_to,
 };
 
 /// A form in which a content is written.
@@ -47,7 +46,7 @@ pub struct WriteOptions {
 /// Chooses the data codewords, with pads, in which a content with this head or none, these items, at most
 /// [`LARGEST_ROOM`], and these marks, at most [`LARGEST_MARKS`], is written (ISO/IEC 16022, encodation schemes, which
 /// leave the choice of encodations to the writer, ECI encodation, structured append, reader programming). After `Ok`,
-/// which has the size of the choice that is taken, `list`, whatever it held before, holds as many as the size has. The
+/// which has the size of the choice that is taken, they stand at the beginning of `list`, as many as the size has. The
 /// fault is `TooLong` exactly where no size of the choice holds the content in this form; then `list` may hold
 /// anything.
 pub fn choose_words_to(
@@ -55,16 +54,17 @@ pub fn choose_words_to(
     items: &[Item],
     marks: &[Mark],
     how: WriteOptions,
-    list: &mut ArrayVec<u8, MOST_DATA>,
+    list: &mut [u8; MOST_DATA],
 ) -> Result<SymbolSize, TooLong>
     requires head { IsHead head }
     requires few { length items.now ≤ LARGEST_ROOM }
     requires few_marks { length marks.now ≤ LARGEST_MARKS }
     requires in_order { AreMarks 0 (length items.now) marks.now }
     ensures chosen { IfOk result (λ size. AreChosen how.form how.size
-        (record { head = head; items = items.now; marks = marks.now }) size list.new.items) }
+        (record { head = head; items = items.now; marks = marks.now }) size
+        (take size.data_count list.new)) }
     ensures size { IfOk result IsSize }
-    ensures count { IfOk result (λ size. length list.new.items ≡ size.data_count) }
+    ensures fits { IfOk result (λ size. size.data_count ≤ length list.new) }
     ensures none { OnErr result ((why : TooLong) → IsWrittenAs how.form how.size
         (record { head = head; items = items.now; marks = marks.now }) (Err why)) }
 {
@@ -81,27 +81,28 @@ fn choose_normal_to(
     items: &[Item],
     marks: &[Mark],
     choice: SizeChoice,
-    list: &mut ArrayVec<u8, MOST_DATA>,
+    list: &mut [u8; MOST_DATA],
 ) -> Result<SymbolSize, TooLong>
     requires head { IsHead head }
     requires few { length items.now ≤ LARGEST_ROOM }
     requires few_marks { length marks.now ≤ LARGEST_MARKS }
     requires in_order { AreMarks 0 (length items.now) marks.now }
     ensures chosen { IfOk result (λ size. AreChosen (Form.Profiled profile) choice
-        (record { head = head; items = items.now; marks = marks.now }) size list.new.items) }
+        (record { head = head; items = items.now; marks = marks.now }) size
+        (take size.data_count list.new)) }
     ensures size { IfOk result IsSize }
-    ensures count { IfOk result (λ size. length list.new.items ≡ size.data_count) }
+    ensures fits { IfOk result (λ size. size.data_count ≤ length list.new) }
     ensures none { OnErr result ((why : TooLong) → IsWrittenAs (Form.Profiled profile) choice
         (record { head = head; items = items.now; marks = marks.now }) (Err why)) }
 {
-    match content_words_in(profile, head, items, marks, list) {
-        Ok(()) => {}
+    let count = match content_words_to(profile, head, items, marks, list) {
+        Ok(count) => count,
         Err(TooLong) => return Err(TooLong),
-    }
-    let Some(size) = SymbolSize::for_words(choice, list.len() as u16) else {
+    };
+    let Some(size) = SymbolSize::for_words(choice, count as u16) else {
         return Err(TooLong);
     };
-    pad_to(list, usize::from(size.data_count()));
+    add_pads(&mut list[..usize::from(size.data_count())], count);
     Ok(size)
 }
 
@@ -124,7 +125,7 @@ pub fn lay_words_to<const WORDS: usize, const ROWS: usize>(
     ensures laid { (codewords : List ℕ) × IsLaid (words_with size codewords) symbol.new
         × (first_data size codewords ≡ list.now) × AreCodewordsOf size codewords }
 {
-    complete_with(words, size, list);
+    complete_in(words.resize(size), size, list);
     lay_to(words, symbol);
 }
 
@@ -153,10 +154,11 @@ pub fn write_content_to(
         → IsPlainSymbol symbol.new (record { head = head; items = items.now; marks = marks.now })) }
     ensures same { OnErr result (symbol.new ≡ symbol.old) }
 {
-    let mut list = ArrayVec::<u8, MOST_DATA>::new();
+    let mut list = [0; MOST_DATA];
     match choose_words_to(head, items, marks, how, &mut list) {
         Ok(size) => {
-            lay_words_to(size, &list, words, symbol);
+            let data = &list[..usize::from(size.data_count())];
+            lay_words_to(size, data, words, symbol);
             Ok(())
         }
         Err(TooLong) => Err(TooLong),

@@ -8,26 +8,11 @@ ghost use Rattle.dm_symbol.specs.SymbolBlocks.{AreOfSize, AreCodewordsOf, first_
 ghost use Rattle.dm_layout.specs.symbols.Blocks.{block_of};
 
 use dm_code::encode;
-use dm_layout::symbols::{SymbolSize, SymbolWordsIn, block, put_block_checks};
+use dm_layout::symbols::{SymbolSize, block, put_block_checks};
 
-/// Turns `words`, whatever they were, into the codewords of a symbol of this size with these data codewords: the check
-/// codewords make each block a codeword of its Reed-Solomon code.
-pub(crate) fn complete_with<const WORDS: usize>(
-    words: &mut SymbolWordsIn<WORDS>,
-    size: SymbolSize,
-    list: &[u8],
-)
-    requires room { codeword_count size ≤ WORDS }
-    requires count { length list.now ≡ size.data_count }
-    ensures size { words.new.size ≡ size }
-    ensures data_words { first_data size words.new.list ≡ list.now }
-    ensures checked { AreCodewordsOf size words.new.list }
-{
-    complete_in(words.resize(size), size, list);
-}
-
-/// Does the same, whatever the room: the codewords are left at the start of `room`.
-fn complete_in(room: &mut [u8], size: SymbolSize, list: &[u8])
+/// Leaves the codewords of a symbol of this size with these data codewords at the start of `room`: the check codewords
+/// make each block a codeword of its Reed-Solomon code.
+pub(crate) fn complete_in(room: &mut [u8], size: SymbolSize, list: &[u8])
     requires room { codeword_count size ≤ length room.old }
     requires count { length list.now ≡ size.data_count }
     ensures data_words { first_data size (first_words size room.new).list ≡ list.now }

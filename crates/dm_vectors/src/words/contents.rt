@@ -18,10 +18,10 @@ pub(super) fn content(words: &[u8]) -> Result<Content, ContentFault> {
 
 /// The codewords of the content in its normal form under the profile.
 fn form_of(profile: Profile, content: &Content) -> Result<ArrayVec<u8, MOST_GRID_DATA>, TooLong> {
-    let mut words = ArrayVec::new();
+    let mut words = [0; MOST_GRID_DATA];
     let (items, marks) = (content.items(), content.marks());
-    match content_words_in(profile, content.head(), items, marks, &mut words) {
-        Ok(()) => Ok(words),
+    match content_words_to(profile, content.head(), items, marks, &mut words) {
+        Ok(count) => Ok(list_of(&words[..count])),
         Err(TooLong) => Err(TooLong),
     }
 }

@@ -2,10 +2,10 @@
 
 use super::*;
 
-/// Places for codewords and messages, which hold whatever was written and read last.
+/// Places for the codewords of side 12 and for messages, which hold whatever was written and read last.
 #[derive(Drop)]
 struct Places {
-    words: ArrayVec<u8, MOST_GRID_DATA>,
+    words: [u8; 5],
     message: Message,
     read: Message,
 }
@@ -17,17 +17,14 @@ static SHORTER: [(&[u8], &[u8]); 3] = [
     (b"A", &[66, 129, 70, 220, 115]),
 ];
 
-/// Whether the codewords are written into their place, with pads up to the size of side 12.
-fn is_written_to(message: &Message, words: &mut ArrayVec<u8, MOST_GRID_DATA>) -> bool {
-    if normal_words_in(Profile::Shorter, message.items(), words).is_err() {
-        return false;
-    }
-    match Size::of_side(12) {
-        Some(size) if words.len() <= usize::from(size.data_count()) => {
-            add_pads(words, size);
+/// Whether the codewords are written into their place, with pads up to its end.
+fn is_written_to(message: &Message, words: &mut [u8; 5]) -> bool {
+    match normal_words_to(Profile::Shorter, message.items(), words) {
+        Ok(count) => {
+            add_pads(words, count);
             true
         }
-        _ => false,
+        Err(TooLong) => false,
     }
 }
 
@@ -44,15 +41,17 @@ fn hold(places: &mut Places, text: &[u8], expected: &[u8]) -> bool {
     places.message.clear();
     add_bytes(&mut places.message, text);
     is_written_to(&places.message, &mut places.words)
-        && places.words.as_slice() == expected
+        && &places.words[..] == expected
         && read_to(&places.words, &mut places.read).is_ok()
         && places.read == places.message
 }
 
 /// Whether the normal codewords of the letter A are written into their place under the profile.
 fn holds_content(profile: Profile, places: &mut Places) -> bool {
-    normal_words_in(profile, places.message.items(), &mut places.words).is_ok()
-        && places.words.as_slice() == [66].as_slice()
+    match normal_words_to(profile, places.message.items(), &mut places.words) {
+        Ok(count) => &places.words[..count] == [66].as_slice(),
+        Err(TooLong) => false,
+    }
 }
 
 /// Whether the places hold one text after the other.
@@ -69,7 +68,7 @@ fn hold_all(places: &mut Places) -> bool {
 #[test]
 fn writes_and_reads_in_places(rt: HostRuntime) {
     let mut places = Places {
-        words: ArrayVec::new(),
+        words: [0; 5],
         message: Message::new(),
         read: Message::new(),
     };

@@ -4,9 +4,9 @@ use super::*;
 
 /// The normal codewords of the message under the profile.
 fn normal_of(profile: Profile, message: &Message) -> Option<ArrayVec<u8, MOST_GRID_DATA>> {
-    let mut words = ArrayVec::new();
-    match normal_words_in(profile, message.items(), &mut words) {
-        Ok(()) => Some(words),
+    let mut words = [0; MOST_GRID_DATA];
+    match normal_words_to(profile, message.items(), &mut words) {
+        Ok(count) => Some(list_of(&words[..count])),
         Err(TooLong) => None,
     }
 }

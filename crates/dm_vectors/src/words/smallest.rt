@@ -8,16 +8,21 @@ fn put_smallest(
     extent: Extent,
     message: &Message,
     choice: SizeChoice,
-    words: &mut ArrayVec<u8, MOST_DATA>,
+    words: &mut [u8; MOST_DATA],
 ) -> Result<SymbolSize, TooLong> {
     smallest_words_to(extent, None, message.items(), &[], choice, words)
 }
 
+/// Whether the first codewords, as many as the size has data codewords, are these.
+pub(super) fn is_front(size: SymbolSize, words: &[u8; MOST_DATA], expected: &[u8]) -> bool {
+    &words[..usize::from(size.data_count())] == expected
+}
+
 /// Whether the smallest codewords of the message in an extent, among the squares, are these, and are read as it.
 fn is_smallest(extent: Extent, message: &Message, expected: &[u8]) -> bool {
-    let mut words = ArrayVec::new();
+    let mut words = [0; MOST_DATA];
     match put_smallest(extent, message, SizeChoice::Square, &mut words) {
-        Ok(_) => words.as_slice() == expected && is_read(extent, expected, message),
+        Ok(size) => is_front(size, &words, expected) && is_read(extent, expected, message),
         Err(_) => false,
     }
 }
@@ -163,10 +168,10 @@ fn writes_the_smallest(rt: HostRuntime) {
 
 /// Whether the smallest codewords of so many bytes 255, among the squares, are so many and begin with these.
 fn is_segment(count: usize, word_count: usize, expected: &[u8]) -> bool {
-    let mut words = ArrayVec::new();
+    let mut words = [0; MOST_DATA];
     let message = of_many(255, count);
     match put_smallest(Extent::Usual, &message, SizeChoice::Square, &mut words) {
-        Ok(_) => words.len() == word_count && words.starts_with(expected),
+        Ok(size) => { usize::from(size.data_count()) == word_count && words.starts_with(expected) }
         Err(_) => false,
     }
 }
@@ -189,7 +194,7 @@ fn writes_the_length_of_a_segment(rt: HostRuntime) {
 
 /// The rows and columns of the smallest symbol of so many digits 0, or 0 and 0 where the choice has none.
 fn size_of_digits(count: usize, choice: SizeChoice) -> (u16, u16) {
-    let mut words = ArrayVec::new();
+    let mut words = [0; MOST_DATA];
     match put_smallest(Extent::Usual, &of_many(b'0', count), choice, &mut words) {
         Ok(size) => (size.rows(), size.columns()),
         Err(_) => (0, 0),

@@ -1,6 +1,7 @@
 //! The smallest symbol of a content. The codewords are those of a plain model, which isn't this program.
 
 use super::contents::content;
+use super::smallest::is_front;
 use super::*;
 use dm_layout::symbols::SizeChoice;
 
@@ -50,7 +51,7 @@ fn is_smallest(words: &[u8]) -> bool {
         return false;
     };
     let (items, marks) = (content.items(), content.marks());
-    let mut smallest = ArrayVec::new();
+    let mut smallest = [0; MOST_DATA];
     match smallest_words_to(
         Extent::Wide,
         content.head(),
@@ -59,7 +60,7 @@ fn is_smallest(words: &[u8]) -> bool {
         SizeChoice::Square,
         &mut smallest,
     ) {
-        Ok(_) => smallest.as_slice() == words,
+        Ok(size) => is_front(size, &smallest, words),
         Err(TooLong) => false,
     }
 }
@@ -80,7 +81,7 @@ fn is_too_long(words: &[u8]) -> bool {
         return false;
     };
     let (items, marks) = (content.items(), content.marks());
-    let mut smallest = ArrayVec::new();
+    let mut smallest = [0; MOST_DATA];
     match smallest_words_to(
         Extent::Usual,
         content.head(),

@@ -1,15 +1,15 @@
 //! The smallest symbol of a content with a head or a mark. Only ASCII says a mark, so a content is cut at its marks,
 //! and each text between them is written before the codewords that follow it.
 
-ghost use Rattle.std.specs.Prelude.{◌≡◌, ℕ, ◌+◌, ◌*◌, ◌<◌, ◌≤◌, ◌++◌, length, IsTrue, IfSome, IfNone, OnErr, None};
-ghost use Rattle.std.specs.Prelude.{false};
+ghost use Rattle.std.specs.Prelude.{◌≡◌, ℕ, ◌+◌, ◌*◌, ◌<◌, ◌≤◌, ◌++◌, length, take, IsTrue, IfSome, IfNone, OnErr};
+ghost use Rattle.std.specs.Prelude.{None, false};
 ghost use Rattle.dm_words.specs.declared.extent.Extent.TheVariants.{Wide};
 ghost use Rattle.dm_words.specs.Heads.{IsHead, head_words};
 ghost use Rattle.dm_words.specs.Contents.{AreMarks};
 ghost use Rattle.dm_words.specs.ContentForm.{ascii_with_marks};
 ghost use Rattle.dm_words.specs.Messages.{IsMessage};
 ghost use Rattle.dm_words.specs.Pads.{padded};
-ghost use Rattle.dm_words.specs.Smallest.{IsSmallestContentResult};
+ghost use Rattle.dm_words.specs.Smallest.{IsSmallestContentResult, chosen_words};
 ghost use Rattle.dm_words.specs.inner.Costs.{before_words, parts_cost, most_behind};
 ghost use Rattle.dm_words.specs.inner.ContentCosts.{view_of, marked_cost, AreBehind, IsLeastContentCost, IsContentWay};
 ghost use Rattle.dm_words.specs.inner.ContentCosts.{IsContentMacro, HasNoContentMacro, AreSaid, seen_by};
@@ -22,19 +22,19 @@ ghost use Rattle.dm_words.specs.inner.Written.{ArePartsWritten};
 use crate::contents::head::{Head, head_words};
 use crate::contents::mark::Mark;
 use crate::contents::normal_form::{
-    add_mark_words, add_words, head_words_length, mark_length, marked_length, write_form,
+    add_mark_words, head_words_length, mark_length, marked_length, write_form,
 };
 use crate::extent::Extent;
 use crate::fault::TooLong;
+use crate::held::{add, add_words};
 use crate::item::Item;
 use crate::limits::{LARGEST_MARKS, LARGEST_ROOM};
 use crate::macros::{HEADER_LENGTH, TRAILER_LENGTH, macro_of};
-use crate::pad::pad_to;
+use crate::pad::add_pads;
 use crate::smallest::parts::write_parts;
 use crate::smallest::plan::{StepBits, plan_to};
 use crate::smallest::setting::Setting;
 use crate::smallest::{Way, inner};
-use arrayvec::ArrayVec;
 use dm_layout::symbols::{MOST_DATA, SizeChoice, SymbolSize};
 
 /// Chooses the smallest data codewords, as [`smallest_words_to()`](crate::smallest_words_to()), in the wide extent, of
@@ -47,7 +47,7 @@ pub(crate) fn smallest_marked_to(
     choice: SizeChoice,
     behind: &mut [u16],
     plan: &mut [StepBits],
-    words: &mut ArrayVec<u8, MOST_DATA>,
+    words: &mut [u8; MOST_DATA],
 ) -> Result<SymbolSize, TooLong>
     requires head { IsHead head }
     requires few { length items.now ≤ LARGEST_ROOM }
@@ -56,17 +56,18 @@ pub(crate) fn smallest_marked_to(
     requires marked { is_plain head marks.now ≡ false }
     requires steps { length items.now < length plan.old }
     requires room { length marks.now ≤ length behind.old }
-    ensures smallest { IsSmallestContentResult Wide choice (view_of head items.now marks.now) result words.new.items }
+    ensures smallest { IsSmallestContentResult Wide choice (view_of head items.now marks.now) result
+        (chosen_words result words.new) }
     ensures message { IsMessage items.now }
-    ensures same { OnErr result (words.new.items ≡ words.old.items) }
+    ensures same { OnErr result (words.new ≡ words.old) }
 {
     let way = least_way(head, items, marks, behind, plan);
     match SymbolSize::for_words(choice, way.cost) {
         None => Err(TooLong),
         Some(size) => {
-            let count = size.data_count();
-            write_content(head, items, marks, way, behind, plan, words, count);
-            pad_to(words, usize::from(count));
+            let data = &mut words[..usize::from(size.data_count())];
+            let held = write_content(head, items, marks, way, behind, plan, data);
+            add_pads(data, held);
             Ok(size)
         }
     }
@@ -210,8 +211,8 @@ fn content_macro(head: Option<Head>, items: &[Item], marks: &[Mark]) -> Option<u
     }
 }
 
-/// Writes a content, without pads, for a symbol of `count` data codewords: in ASCII where there is room for that, and
-/// else in this way.
+/// Writes a content, without pads, to the beginning of the data codewords of a symbol, and gives the number of its
+/// codewords: in ASCII where there is room for that, and else in this way.
 fn write_content(
     head: Option<Head>,
     items: &[Item],
@@ -219,9 +220,8 @@ fn write_content(
     way: Way,
     behind: &[u16],
     plan: &mut [StepBits],
-    words: &mut ArrayVec<u8, MOST_DATA>,
-    count: u16,
-)
+    words: &mut [u8],
+) -> usize
     requires head { IsHead head }
     requires few { length items.now ≤ LARGEST_ROOM }
     requires few_marks { length marks.now ≤ LARGEST_MARKS }
@@ -231,38 +231,31 @@ fn write_content(
     requires behind { AreBehind (seen_by way.macro_word) (text_of way.macro_word items.now) marks.now behind.now }
     requires behinds { length marks.now ≤ length behind.now }
     requires steps { length items.now < length plan.old }
-    requires room { way.cost ≤ count }
-    requires count { count ≤ MOST_DATA }
-    ensures written { AreWritten Wide (padded words.new.items count) (view_of head items.now marks.now) }
-    ensures fits { length words.new.items ≤ count }
-    ensures ascii { length (head_words head ++ ascii_with_marks 0 items.now marks.now) ≤ count
-        → words.new.items ≡ head_words head ++ ascii_with_marks 0 items.now marks.now }
+    requires room { way.cost ≤ length words.old }
+    requires short { length words.old ≤ MOST_DATA }
+    ensures written { AreWritten Wide (padded (take result words.new) (length words.old))
+        (view_of head items.now marks.now) }
+    ensures fits { result ≤ length words.old }
+    ensures ascii { length (head_words head ++ ascii_with_marks 0 items.now marks.now) ≤ length words.old
+        → take result words.new ≡ head_words head ++ ascii_with_marks 0 items.now marks.now }
 {
     let length = head_words_length(head) + marked_length(items, marks);
-    let total = usize::from(count);
-    if length <= total {
-        write_form(head, items, marks, words);
-        return;
+    if length <= words.len() {
+        return write_form(head, items, marks, words);
     }
-    words.clear();
+    let mut held = 0;
     match way.macro_word {
         None => {
-            add_words(head_words(head).as_slice(), words);
-            write_texts(0, items, marks, behind, plan, words, total);
+            add_words(head_words(head).as_slice(), words, &mut held);
+            write_texts(0, items, marks, behind, plan, words, &mut held);
         }
         Some(word) => {
-            words.push(word);
-            write_texts(
-                HEADER_LENGTH,
-                inner(items),
-                marks,
-                behind,
-                plan,
-                words,
-                total,
-            );
+            add(word, words, &mut held);
+            let text = inner(items);
+            write_texts(HEADER_LENGTH, text, marks, behind, plan, words, &mut held);
         }
     }
+    held
 }
 
 /// Writes items with marks behind the words that stand there, where so many items stand before them.
@@ -272,8 +265,8 @@ fn write_texts(
     marks: &[Mark],
     behind: &[u16],
     plan: &mut [StepBits],
-    words: &mut ArrayVec<u8, MOST_DATA>,
-    total: usize,
+    words: &mut [u8],
+    held: &mut usize,
 )
     requires few { length items.now ≤ LARGEST_ROOM }
     requires few_marks { length marks.now ≤ LARGEST_MARKS }
@@ -282,20 +275,22 @@ fn write_texts(
     requires behind { AreBehind seen items.now marks.now behind.now }
     requires behinds { length marks.now ≤ length behind.now }
     requires steps { length items.now < length plan.old }
-    requires budget { length words.old.items + marked_cost seen items.now marks.now ≤ total }
-    requires total { total ≤ MOST_DATA }
-    ensures said { AreSaid total words.old.items words.new.items seen items.now marks.now }
-    ensures fits { length words.new.items ≤ total }
-    ensures sign { KeepsSign words.old.items words.new.items (first_text seen items.now marks.now) }
+    requires budget { held.old + marked_cost seen items.now marks.now ≤ length words.old }
+    requires short { length words.old ≤ MOST_DATA }
+    ensures said { AreSaid (length words.old) (take held.old words.old) (take held.new words.new) seen items.now
+        marks.now }
+    ensures fits { held.new ≤ length words.old }
+    ensures sign { KeepsSign (take held.old words.old) (take held.new words.new)
+        (first_text seen items.now marks.now) }
 {
     let mut from = 0;
     for k in 0..marks.len() {
         let end = usize::from(marks[k].place) - seen;
-        write_text(behind[k], &items[from..end], plan, words, total);
-        add_mark_words(marks[k].number, words);
+        write_text(behind[k], &items[from..end], plan, words, held);
+        add_mark_words(marks[k].number, words, held);
         from = end;
     }
-    write_text(0, &items[from..], plan, words, total);
+    write_text(0, &items[from..], plan, words, held);
 }
 
 /// Writes items behind the words that stand there, where so many codewords follow them.
@@ -303,23 +298,24 @@ fn write_text(
     behind: u16,
     items: &[Item],
     plan: &mut [StepBits],
-    words: &mut ArrayVec<u8, MOST_DATA>,
-    total: usize,
+    words: &mut [u8],
+    held: &mut usize,
 )
     requires few { length items.now ≤ LARGEST_ROOM }
     requires behind { behind ≤ most_behind }
     requires message { IsMessage items.now }
     requires steps { length items.now < length plan.old }
-    requires budget { length words.old.items + parts_cost (before_words behind) items.now ≤ total }
-    requires total { total ≤ MOST_DATA }
-    ensures parts { ArePartsWritten Wide total words.old.items words.new.items items.now }
-    ensures fits { length words.new.items + behind ≤ total }
-    ensures sign { KeepsSign words.old.items words.new.items items.now }
+    requires budget { held.old + parts_cost (before_words behind) items.now ≤ length words.old }
+    requires short { length words.old ≤ MOST_DATA }
+    ensures parts { ArePartsWritten Wide (length words.old) (take held.old words.old) (take held.new words.new)
+        items.now }
+    ensures fits { held.new + behind ≤ length words.old }
+    ensures sign { KeepsSign (take held.old words.old) (take held.new words.new) items.now }
 {
     let setting = Setting {
         extent: Extent::Wide,
         behind,
     };
     let _cost = plan_to(setting, items, plan);
-    let _usual = write_parts(setting, items, plan, words, total);
+    let _usual = write_parts(setting, items, plan, words, held);
 }

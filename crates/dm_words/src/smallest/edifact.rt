@@ -5,11 +5,11 @@ ghost use Rattle.dm_words.specs.inner.Costs.{step_in, going_from, parts_cost, Is
 ghost use Rattle.dm_words.specs.inner.Written.{IsSmallGroup, waiting_values, whole_words, IsGroupPushed, group_stops};
 ghost use Rattle.dm_words.specs.inner.Written.{IsEdifactEnded, IsPartWritten};
 
+use crate::held::add;
 use crate::item::{Item, byte};
 use crate::limits::LARGEST_ROOM;
 use crate::smallest::plan::StepBits;
 use crate::smallest::setting::Setting;
-use arrayvec::ArrayVec;
 use dm_layout::symbols::MOST_DATA;
 
 /// The latch to EDIFACT.
@@ -32,20 +32,21 @@ pub enum Group {
 }
 
 /// Adds a value of a run behind those that stand, and gives those that stand then. A whole group is written.
-fn push_value(group: Group, value: u8, words: &mut ArrayVec<u8, MOST_DATA>) -> Group
+fn push_value(group: Group, value: u8, words: &mut [u8], held: &mut usize) -> Group
     requires small { value < 64 }
     requires group { IsSmallGroup group }
-    requires room { length words.old.items + whole_words group ≤ MOST_DATA }
-    ensures { IsGroupPushed group words.old.items value result words.new.items }
+    requires room { held.old + whole_words group ≤ length words.old }
+    ensures pushed { IsGroupPushed group (take held.old words.old) value result (take held.new words.new) }
+    ensures within { held.new ≤ length words.new }
 {
     match group {
         Group::Empty => Group::One(value),
         Group::One(first) => Group::Two(first, value),
         Group::Two(first, second) => Group::Three(first, second, value),
         Group::Three(first, second, third) => {
-            words.push(4 * first + second / 16);
-            words.push(second % 16 * 16 + third / 4);
-            words.push(third % 4 * 64 + value);
+            add(4 * first + second / 16, words, held);
+            add(second % 16 * 16 + third / 4, words, held);
+            add(third % 4 * 64 + value, words, held);
             Group::Empty
         }
     }
@@ -63,18 +64,18 @@ fn goes_on(group: Group, step: &StepBits) -> bool
 }
 
 /// Ends a run: with an unlatch as the fourth value of a group, or by itself where more than two codewords are left.
-fn end_run(group: Group, words: &mut ArrayVec<u8, MOST_DATA>, total: usize)
+fn end_run(group: Group, words: &mut [u8], held: &mut usize)
     requires group { IsSmallGroup group }
-    requires room { length words.old.items + length (waiting_values group) ≤ total }
-    requires total { total ≤ MOST_DATA }
-    ensures { IsEdifactEnded group total words.old.items words.new.items }
+    requires room { held.old + length (waiting_values group) ≤ length words.old }
+    ensures ended { IsEdifactEnded group (length words.old) (take held.old words.old) (take held.new words.new) }
+    ensures within { held.new ≤ length words.new }
 {
     if let Group::Empty = group {
-        if total - words.len() > 2 {
-            words.push(4 * UNLATCH_VALUE);
+        if words.len() - *held > 2 {
+            add(4 * UNLATCH_VALUE, words, held);
         }
     } else {
-        let _whole = push_value(group, UNLATCH_VALUE, words);
+        let _whole = push_value(group, UNLATCH_VALUE, words, held);
     }
 }
 
@@ -84,29 +85,29 @@ pub(crate) fn write_edifact(
     items: &[Item],
     at: usize,
     plan: &[StepBits],
-    words: &mut ArrayVec<u8, MOST_DATA>,
-    total: usize,
+    words: &mut [u8],
+    held: &mut usize,
 ) -> usize
     requires at { at < length items.now }
     requires few { length items.now ≤ LARGEST_ROOM }
     requires steps { length items.now < length plan.now }
     requires plan { IsRightPlan setting items.now plan.now }
-    requires budget { length words.old.items + 1
-        + (going_from setting (drop at items.now)).edifact.none ≤ total }
-    requires total { total ≤ MOST_DATA }
+    requires budget { held.old + 1
+        + (going_from setting (drop at items.now)).edifact.none ≤ length words.old }
+    requires short { length words.old ≤ MOST_DATA }
     ensures further { at < result }
     ensures within { result ≤ length items.now }
-    ensures budget { length words.new.items + parts_cost setting (drop result items.now) ≤ total }
-    ensures part { IsPartWritten setting.extent total words.old.items words.new.items
-        (take (result - at) (drop at items.now)) }
+    ensures budget { held.new + parts_cost setting (drop result items.now) ≤ length words.old }
+    ensures part { IsPartWritten setting.extent (length words.old) (take held.old words.old)
+        (take held.new words.new) (take (result - at) (drop at items.now)) }
 {
-    words.push(LATCH);
-    let mut group = push_value(Group::Empty, byte(items[at]) % 64, words);
+    add(LATCH, words, held);
+    let mut group = push_value(Group::Empty, byte(items[at]) % 64, words, held);
     let mut next = at + 1;
     while goes_on(group, &plan[next]) {
-        group = push_value(group, byte(items[next]) % 64, words);
+        group = push_value(group, byte(items[next]) % 64, words, held);
         next += 1;
     }
-    end_run(group, words, total);
+    end_run(group, words, held);
     next
 }

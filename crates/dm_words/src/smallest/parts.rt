@@ -8,6 +8,7 @@ ghost use Rattle.dm_words.specs.inner.Signs.{KeepsSign, PassesSign};
 ghost use Rattle.dm_words.specs.inner.Written.{IsPartWritten, ArePartsWritten};
 
 use crate::ascii::{digit_pair, unit_of, write_unit};
+use crate::held::add;
 use crate::item::{Item, byte};
 use crate::limits::LARGEST_ROOM;
 use crate::smallest::edifact::write_edifact;
@@ -15,7 +16,6 @@ use crate::smallest::plan::{Begin, StepBits};
 use crate::smallest::run::write_run;
 use crate::smallest::segment::{segment_end, write_segment};
 use crate::smallest::setting::Setting;
-use arrayvec::ArrayVec;
 use dm_layout::symbols::MOST_DATA;
 
 /// What is known of a part that was written.
@@ -33,8 +33,8 @@ fn write_part(
     items: &[Item],
     at: usize,
     plan: &[StepBits],
-    words: &mut ArrayVec<u8, MOST_DATA>,
-    total: usize,
+    words: &mut [u8],
+    held: &mut usize,
 ) -> Written
     requires at { at < length items.now }
     requires few { length items.now ≤ LARGEST_ROOM }
@@ -42,53 +42,57 @@ fn write_part(
     requires steps { length items.now < length plan.now }
     requires behind { setting.behind ≤ most_behind }
     requires plan { IsRightPlan setting items.now plan.now }
-    requires budget { length words.old.items + parts_cost setting (drop at items.now) ≤ total }
-    requires total { total ≤ MOST_DATA }
+    requires budget { held.old + parts_cost setting (drop at items.now) ≤ length words.old }
+    requires short { length words.old ≤ MOST_DATA }
     ensures further { at < result.next }
     ensures within { result.next ≤ length items.now }
-    ensures budget { length words.new.items + parts_cost setting (drop result.next items.now)
-        ≤ total }
-    ensures part { IsPartWritten setting.extent total words.old.items words.new.items
-        (take (result.next - at) (drop at items.now)) }
+    ensures budget { held.new + parts_cost setting (drop result.next items.now)
+        ≤ length words.old }
+    ensures part { IsPartWritten setting.extent (length words.old) (take held.old words.old)
+        (take held.new words.new) (take (result.next - at) (drop at items.now)) }
     ensures usual { IsTrue result.is_usual
-        → IsPartWritten Usual total words.old.items words.new.items
-        (take (result.next - at) (drop at items.now)) }
-    ensures sign { PassesSign words.old.items words.new.items (drop at items.now)
+        → IsPartWritten Usual (length words.old) (take held.old words.old)
+        (take held.new words.new) (take (result.next - at) (drop at items.now)) }
+    ensures sign { PassesSign (take held.old words.old) (take held.new words.new) (drop at items.now)
         (drop result.next items.now) }
 {
     match plan[at].begin() {
         Begin::One => {
-            let _one = write_unit(unit_of(items[at]), words);
+            let _one = write_unit(unit_of(items[at]), words, held);
             Written {
                 next: at + 1,
                 is_usual: true,
             }
         }
         Begin::Two => {
-            words.push(digit_pair(byte(items[at]), byte(items[at + 1])));
+            add(
+                digit_pair(byte(items[at]), byte(items[at + 1])),
+                words,
+                held,
+            );
             Written {
                 next: at + 2,
                 is_usual: true,
             }
         }
         Begin::Run(set) => Written {
-            next: write_run(setting, items, at, set, plan, words, total),
+            next: write_run(setting, items, at, set, plan, words, held),
             is_usual: true,
         },
         Begin::Edifact => Written {
-            next: write_edifact(setting, items, at, plan, words, total),
+            next: write_edifact(setting, items, at, plan, words, held),
             is_usual: false,
         },
         Begin::Segment => {
             let end = segment_end(setting, items, at, plan);
-            write_segment(&items[at..end], words, total);
+            write_segment(&items[at..end], words, held);
             Written {
                 next: end,
                 is_usual: true,
             }
         }
         Begin::Rest => {
-            write_segment(&items[at..], words, total);
+            write_segment(&items[at..], words, held);
             Written {
                 next: items.len(),
                 is_usual: true,
@@ -102,26 +106,27 @@ pub(crate) fn write_parts(
     setting: Setting,
     items: &[Item],
     plan: &[StepBits],
-    words: &mut ArrayVec<u8, MOST_DATA>,
-    total: usize,
+    words: &mut [u8],
+    held: &mut usize,
 ) -> bool
     requires few { length items.now ≤ LARGEST_ROOM }
     requires message { IsMessage items.now }
     requires steps { length items.now < length plan.now }
     requires behind { setting.behind ≤ most_behind }
     requires plan { IsRightPlan setting items.now plan.now }
-    requires budget { length words.old.items + parts_cost setting items.now ≤ total }
-    requires total { total ≤ MOST_DATA }
-    ensures parts { ArePartsWritten setting.extent total words.old.items words.new.items items.now }
-    ensures usual { IsTrue result
-        → ArePartsWritten Usual total words.old.items words.new.items items.now }
-    ensures fits { length words.new.items + setting.behind ≤ total }
-    ensures sign { KeepsSign words.old.items words.new.items items.now }
+    requires budget { held.old + parts_cost setting items.now ≤ length words.old }
+    requires short { length words.old ≤ MOST_DATA }
+    ensures parts { ArePartsWritten setting.extent (length words.old) (take held.old words.old)
+        (take held.new words.new) items.now }
+    ensures usual { IsTrue result → ArePartsWritten Usual (length words.old) (take held.old words.old)
+        (take held.new words.new) items.now }
+    ensures fits { held.new + setting.behind ≤ length words.old }
+    ensures sign { KeepsSign (take held.old words.old) (take held.new words.new) items.now }
 {
     let mut are_usual = true;
     let mut at = 0;
     while at < items.len() {
-        let part = write_part(setting, items, at, plan, words, total);
+        let part = write_part(setting, items, at, plan, words, held);
         are_usual &= part.is_usual;
         at = part.next;
     }

@@ -13,12 +13,12 @@ ghost use Rattle.dm_words.specs.inner.Written.{is_empty, run_ends, IsPartWritten
 
 use crate::c40::set::CodeSet;
 use crate::codeword::UNLATCH;
+use crate::held::add;
 use crate::item::Item;
 use crate::limits::LARGEST_ROOM;
 use crate::smallest::plan::StepBits;
 use crate::smallest::setting::Setting;
 use crate::smallest::values::{one_value, values_of};
-use arrayvec::ArrayVec;
 use dm_layout::symbols::MOST_DATA;
 use std::marker::Model;
 
@@ -73,11 +73,12 @@ impl Part {
 }
 
 /// Adds a value of a run behind those that stand, and gives those that stand then. A whole pair is written.
-fn push_value(part: Part, value: u8, words: &mut ArrayVec<u8, MOST_DATA>) -> Part
+fn push_value(part: Part, value: u8, words: &mut [u8], held: &mut usize) -> Part
     requires small { value < 40 }
     requires part { IsSmallPart part }
-    requires room { length words.old.items + 2 * ((length (part_values part) + 1) / 3) ≤ MOST_DATA }
-    ensures { IsValuePushed part words.old.items value result words.new.items }
+    requires room { held.old + 2 * ((length (part_values part) + 1) / 3) ≤ length words.old }
+    ensures pushed { IsValuePushed part (take held.old words.old) value result (take held.new words.new) }
+    ensures within { held.new ≤ length words.new }
 {
     let number = 40 * part.number + u16::from(value);
     if part.count < 2 {
@@ -86,22 +87,24 @@ fn push_value(part: Part, value: u8, words: &mut ArrayVec<u8, MOST_DATA>) -> Par
             number,
         };
     }
-    words.push(((number + 1) / 256) as u8);
-    words.push(((number + 1) % 256) as u8);
+    add(((number + 1) / 256) as u8, words, held);
+    add(((number + 1) % 256) as u8, words, held);
     Part::empty()
 }
 
 /// Adds values of a run.
-fn push_values(part: Part, values: &[u8], words: &mut ArrayVec<u8, MOST_DATA>) -> Part
+fn push_values(part: Part, values: &[u8], words: &mut [u8], held: &mut usize) -> Part
     requires small { All IsRunValue values.now }
     requires part { IsSmallPart part }
     requires few { length values.now ≤ 4 }
-    requires room { length words.old.items + 2 * ((length (part_values part) + length values.now) / 3) ≤ MOST_DATA }
-    ensures { ArePushed words.old.items (part_values part) values.now words.new.items result }
+    requires room { held.old + 2 * ((length (part_values part) + length values.now) / 3) ≤ length words.old }
+    ensures pushed { ArePushed (take held.old words.old) (part_values part) values.now (take held.new words.new)
+        result }
+    ensures within { held.new ≤ length words.new }
 {
     let mut part = part;
     for value in values {
-        part = push_value(part, *value, words);
+        part = push_value(part, *value, words, held);
     }
     part
 }
@@ -109,26 +112,28 @@ fn push_values(part: Part, values: &[u8], words: &mut ArrayVec<u8, MOST_DATA>) -
 /// Adds the values of an item of a run, whatever they are. It stands by itself, so that where an item is one value no
 /// list is made.
 #[inline(never)]
-fn push_spelling(set: CodeSet, item: Item, part: Part, words: &mut ArrayVec<u8, MOST_DATA>) -> Part
-    requires held { 0 < set_values set item }
+fn push_spelling(set: CodeSet, item: Item, part: Part, words: &mut [u8], held: &mut usize) -> Part
+    requires has { 0 < set_values set item }
     requires part { IsSmallPart part }
-    requires room { length words.old.items + 2 * ((length (part_values part) + set_values set item) / 3) ≤ MOST_DATA }
-    ensures { IsItemPushed set item part words.old.items words.new.items result }
+    requires room { held.old + 2 * ((length (part_values part) + set_values set item) / 3) ≤ length words.old }
+    ensures pushed { IsItemPushed set item part (take held.old words.old) (take held.new words.new) result }
+    ensures within { held.new ≤ length words.new }
 {
     let values = values_of(set, item);
-    push_values(part, &values, words)
+    push_values(part, &values, words, held)
 }
 
 /// Adds the values of an item of a run.
-fn push_item(set: CodeSet, item: Item, part: Part, words: &mut ArrayVec<u8, MOST_DATA>) -> Part
-    requires held { 0 < set_values set item }
+fn push_item(set: CodeSet, item: Item, part: Part, words: &mut [u8], held: &mut usize) -> Part
+    requires has { 0 < set_values set item }
     requires part { IsSmallPart part }
-    requires room { length words.old.items + 2 * ((length (part_values part) + set_values set item) / 3) ≤ MOST_DATA }
-    ensures { IsItemPushed set item part words.old.items words.new.items result }
+    requires room { held.old + 2 * ((length (part_values part) + set_values set item) / 3) ≤ length words.old }
+    ensures pushed { IsItemPushed set item part (take held.old words.old) (take held.new words.new) result }
+    ensures within { held.new ≤ length words.new }
 {
     match one_value(set, item) {
-        Some(value) => push_value(part, value, words),
-        None => push_spelling(set, item, part, words),
+        Some(value) => push_value(part, value, words, held),
+        None => push_spelling(set, item, part, words, held),
     }
 }
 
@@ -147,32 +152,32 @@ pub(crate) fn write_run(
     at: usize,
     set: CodeSet,
     plan: &[StepBits],
-    words: &mut ArrayVec<u8, MOST_DATA>,
-    total: usize,
+    words: &mut [u8],
+    held: &mut usize,
 ) -> usize
     requires at { at < length items.now }
     requires few { length items.now ≤ LARGEST_ROOM }
     requires steps { length items.now < length plan.now }
     requires plan { IsRightPlan setting items.now plan.now }
-    requires budget { length words.old.items + 1
-        + owed 0 (going_pairs set (going_from setting (drop at items.now))) ≤ total }
-    requires total { total ≤ MOST_DATA }
+    requires budget { held.old + 1
+        + owed 0 (going_pairs set (going_from setting (drop at items.now))) ≤ length words.old }
+    requires short { length words.old ≤ MOST_DATA }
     ensures further { at < result }
     ensures within { result ≤ length items.now }
-    ensures budget { length words.new.items + parts_cost setting (drop result items.now) ≤ total }
-    ensures part { (any : Extent) → IsPartWritten any total words.old.items words.new.items
-        (take (result - at) (drop at items.now)) }
+    ensures budget { held.new + parts_cost setting (drop result items.now) ≤ length words.old }
+    ensures part { (any : Extent) → IsPartWritten any (length words.old) (take held.old words.old)
+        (take held.new words.new) (take (result - at) (drop at items.now)) }
 {
-    words.push(latch(set));
+    add(latch(set), words, held);
     // So the other call stands in the loop alone, and is no call.
-    let mut part = push_spelling(set, items[at], Part::empty(), words);
+    let mut part = push_spelling(set, items[at], Part::empty(), words, held);
     let mut next = at + 1;
     while goes_on(&part, &plan[next], set) {
-        part = push_item(set, items[next], part, words);
+        part = push_item(set, items[next], part, words, held);
         next += 1;
     }
-    if total - words.len() > 1 {
-        words.push(UNLATCH);
+    if words.len() - *held > 1 {
+        add(UNLATCH, words, held);
     }
     next
 }

@@ -9,11 +9,11 @@ ghost use Rattle.dm_words.specs.inner.Written.{IsFieldWritten, IsPartWritten};
 
 use crate::base256::{MOST_SHORT, push_length, push_value, write_bytes};
 use crate::codeword::BASE256_LATCH;
+use crate::held::add;
 use crate::item::Item;
 use crate::limits::LARGEST_ROOM;
 use crate::smallest::plan::StepBits;
 use crate::smallest::setting::Setting;
-use arrayvec::ArrayVec;
 use dm_layout::symbols::MOST_DATA;
 
 /// Gives the index behind a segment whose length is written out, from that of its first byte.
@@ -41,33 +41,34 @@ pub(crate) fn segment_end(setting: Setting, items: &[Item], at: usize, plan: &[S
 
 /// Writes the length field of a segment of `count` bytes: 0, for all bytes up to the end of the symbol, where they
 /// end there and the count would take two numbers.
-fn push_field(words: &mut ArrayVec<u8, MOST_DATA>, count: usize, total: usize)
+fn push_field(count: usize, words: &mut [u8], held: &mut usize)
     requires some { 0 < count }
-    requires room { length words.old.items + 1 + count ≤ total }
-    requires total { total ≤ MOST_DATA }
-    ensures { IsFieldWritten total count words.old.items words.new.items }
+    requires room { held.old + 1 + count ≤ length words.old }
+    requires short { length words.old ≤ MOST_DATA }
+    ensures written { IsFieldWritten (length words.old) count (take held.old words.old) (take held.new words.new) }
+    ensures within { held.new ≤ length words.new }
 {
-    if count > MOST_SHORT && words.len() + 1 + count == total {
-        push_value(words, 0);
+    if count > MOST_SHORT && *held + 1 + count == words.len() {
+        push_value(0, words, held);
     } else {
-        push_length(words, count);
+        push_length(count, words, held);
     }
 }
 
 /// Writes a segment of these bytes.
-pub(crate) fn write_segment(items: &[Item], words: &mut ArrayVec<u8, MOST_DATA>, total: usize)
+pub(crate) fn write_segment(items: &[Item], words: &mut [u8], held: &mut usize)
     requires some { 0 < length items.now }
     requires bytes { has_fnc1 items.now ≡ false }
     requires message { IsMessage items.now }
-    requires room { length words.old.items + 2 + length items.now ≤ total }
-    requires total { total ≤ MOST_DATA }
-    ensures fits { length words.new.items ≤ total }
-    ensures most { length words.new.items ≤ length words.old.items + 1
+    requires room { held.old + 2 + length items.now ≤ length words.old }
+    requires short { length words.old ≤ MOST_DATA }
+    ensures fits { held.new ≤ length words.new }
+    ensures most { held.new ≤ held.old + 1
         + length (length_numbers (length items.now)) + length items.now }
-    ensures part { (extent : Extent)
-        → IsPartWritten extent total words.old.items words.new.items items.now }
+    ensures part { (extent : Extent) → IsPartWritten extent (length words.old) (take held.old words.old)
+        (take held.new words.new) items.now }
 {
-    words.push(BASE256_LATCH);
-    push_field(words, items.len(), total);
-    write_bytes(items, words);
+    add(BASE256_LATCH, words, held);
+    push_field(items.len(), words, held);
+    write_bytes(items, words, held);
 }

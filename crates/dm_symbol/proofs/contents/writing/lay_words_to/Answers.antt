@@ -1,11 +1,11 @@
-use Rattle.dm_symbol.proofs.Names.{subst, IsLaid, words_with}
+use Rattle.dm_symbol.proofs.Names.{refl, IsLaid, first_words}
 use Rattle.dm_symbol.proofs.ChosenWords.{chosen_written}
 use Rattle.dm_symbol.proofs.contents.writing.lay_words_to.Goals as goal
 
 pub returns : goal.returns
 returns g c =
-    let words = c.complete_with.new.words in
-    let is = c.complete_with.ensures in
+    let words = first_words c.args.size c.complete_in.new.room in
+    let is = c.complete_in.ensures in
     let laid : IsLaid words c.lay_to.new.symbol =
     record {
       holds = c.lay_to.ensures.holds;
@@ -14,12 +14,7 @@ returns g c =
     } in
     record {
       written = λ form choice content chosen.
-          chosen_written form choice content c.args.size c.args.list.now c.lay_to.new.symbol words chosen is.size
+          chosen_written form choice content c.args.size c.args.list.now c.lay_to.new.symbol words chosen refl
           is.data_words is.checked laid;
-      laid = (
-        words.list,
-        subst (λ size. IsLaid (words_with size words.list) c.lay_to.new.symbol) is.size laid,
-        is.data_words,
-        is.checked,
-      );
+      laid = (words.list, laid, is.data_words, is.checked);
     }

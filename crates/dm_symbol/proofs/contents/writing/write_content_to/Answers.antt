@@ -1,5 +1,4 @@
-use Rattle.dm_symbol.proofs.Names.{List, ℕ, arith, ap, length, rules, subst, sym, ◌∙◌, ContentView, size_facts}
-use Rattle.dm_symbol.proofs.Names.{AreChosen}
+use Rattle.dm_symbol.proofs.Names.{ℕ, arith, length-take, rules, subst, sym, take, ◌∙◌, ContentView, size_facts, AreChosen}
 use Rattle.dm_symbol.proofs.PlainSymbols.{form_written_is_plain}
 use Rattle.dm_symbol.proofs.contents.writing.write_content_to.Goals as goal
 
@@ -10,7 +9,7 @@ lay_words_to-requires c =
       (
         search rules,
         (
-          ap length c.deref.ensures.0 ∙ c.in-Ok.ensures.count,
+          omega (arith, c.from.ensures, c.data_count.ensures.value, c.data_count.ensures.most, length-take {A = ℕ}),
           (omega (arith, facts.codewords), omega (arith, facts.rows_fit)),
         ),
       ),
@@ -21,8 +20,8 @@ returns-in-Ok-clause-written c =
     let a = c.args in
     let l : ContentView = record { head = a.head; items = a.items.now; marks = a.marks.now } in
     c.lay_words_to.ensures.written a.how.form a.how.size l
-    (subst (λ (ws : List ℕ). AreChosen a.how.form a.how.size l c.in-Ok.size ws) (sym c.deref.ensures.0)
-    c.in-Ok.ensures.chosen)
+    (subst (λ (n : ℕ). AreChosen a.how.form a.how.size l c.in-Ok.size (take n c.choose_words_to.new.list))
+    (sym (c.from.ensures ∙ c.data_count.ensures.value)) c.in-Ok.ensures.chosen)
 
 pub returns-in-Ok-clause-plain : goal.returns-in-Ok-clause-plain
 returns-in-Ok-clause-plain c = λ fit.

@@ -1,5 +1,5 @@
 use Rattle.dm_words.proofs.Names.{◌≡◌, ◌∙◌, ℕ, ◌+◌, ◌-◌, ◌∷◌, length, take, drop, get_or, ap, sym, arith, refl, rules}
-use Rattle.dm_words.proofs.Names.{length-append, length-take, length-drop, All-drop, All-take, eci_word, designator}
+use Rattle.dm_words.proofs.Names.{length-take, length-drop, All-drop, All-take, eci_word, designator}
 use Rattle.dm_words.proofs.Names.{spelled, IsItem, before_words, parts_cost, marked_cost, nat_tests}
 use Rattle.dm_words.proofs.ContentWritten.{nothing_said, texts_turn, texts_end}
 use Rattle.dm_words.proofs.MarkedCosts.{forth, behind_few}
@@ -13,7 +13,7 @@ loop-k-init c =
       within = omega arith;
       steps = c.requires.steps;
       in_order = rw (← here) c.requires.in_order;
-      said = nothing_said c.args.total c.args.words.now.items c.args.seen;
+      said = nothing_said (length c.args.words.now) (take c.args.held.now c.args.words.now) c.args.seen;
       budget = omega (arith, ap (λ (p : ℕ). marked_cost p c.args.items.now c.args.marks.now) here);
       first = λ e. (refl, refl);
       sign = λ some. absurd (omega (arith, some));
@@ -47,7 +47,7 @@ write_text-requires c =
       message = All-take IsItem count (drop from items) (All-drop IsItem from items c.requires.message);
       steps = omega (arith, v.steps, length-take count (drop from items), length-drop from items);
       budget = omega (arith, v.budget, f.cost, paid);
-      total = c.requires.total;
+      short = omega (arith, c.requires.short);
     }
 
 pub loop-k-preserved : goal.loop-k-preserved
@@ -60,25 +60,26 @@ loop-k-preserved c =
     let from = c.loop-k.from in
     let m = get_or marks k (record { place = 0; number = 0 }) in
     let f = forth seen items marks k from (record { place = 0; number = 0 }) c.loop-k-test.true v.in_order in
-    let new = c.write_text.new.words.items in
+    let new = take c.write_text.new.held c.write_text.new.words in
+    let same : length c.loop-k.words ≡ length c.args.words.now = omega arith in
     record {
       within = omega (arith, f.within, c.from.ensures);
       steps = search rules;
       in_order = rw (sym c.from.ensures) at f.in_order;
       said = texts_turn _ _ _ _ _ _ _ _ k _ _ _ _ (c.from.result - seen) f (ap (λ (p : ℕ). p - seen) c.from.ensures)
-          v.said c.write_text.ensures.parts c.add_mark_words.ensures;
+          v.said (rw same at c.write_text.ensures.parts) c.add_mark_words.ensures.added;
       budget = omega (
         arith,
-        ap length c.add_mark_words.ensures,
-        length-append new (eci_word ∷ designator m.number),
+        c.add_mark_words.ensures.counted,
         ap (λ (p : ℕ). marked_cost (seen + (p - seen)) (drop (p - seen) items) (drop (k + 1) marks)) c.from.ensures,
       );
       first = λ e. absurd (omega (arith, e));
-      sign = λ some. sign_turn c.args.words.now.items c.loop-k.words.items new c.add_mark_words.new.words.items
+      sign = λ some. sign_turn (take c.args.held.now c.args.words.now) (take c.loop-k.held c.loop-k.words) new
+          (take c.add_mark_words.new.held c.add_mark_words.new.words)
           (spelled c.write_text.ensures.parts.parts) (eci_word ∷ designator m.number) seen items marks k from
           (c.from.result - seen) (record { place = 0; number = 0 }) c.loop-k-test.true
           (ap (λ (p : ℕ). p - seen) c.from.ensures) v.first v.sign c.write_text.ensures.sign
-          c.write_text.ensures.parts.whole c.add_mark_words.ensures;
+          c.write_text.ensures.parts.whole c.add_mark_words.ensures.added;
     }
 
 pub returns-clause-said : goal.returns-clause-said

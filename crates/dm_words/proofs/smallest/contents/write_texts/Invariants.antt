@@ -8,8 +8,9 @@ invariant-loop-k l = record {
   within : l.from ≤ length l.items;
   steps : length l.items < length l.plan;
   in_order : AreMarks (l.seen + l.from) (l.seen + length l.items) (drop l.k l.marks);
-  said : AreSaid l.total l.fn.words.items l.words.items l.seen (take l.from l.items) (take l.k l.marks);
-  budget : length l.words.items + marked_cost (l.seen + l.from) (drop l.from l.items) (drop l.k l.marks) ≤ l.total;
-  first : l.k ≡ 0 → (l.from ≡ 0) × (l.words.items ≡ l.fn.words.items);
-  sign : 0 < l.k → KeepsSign l.fn.words.items l.words.items (first_text l.seen l.items l.marks);
+  said : AreSaid (length l.fn.words) (take l.fn.held l.fn.words) (take l.held l.words) l.seen (take l.from l.items)
+      (take l.k l.marks);
+  budget : l.held + marked_cost (l.seen + l.from) (drop l.from l.items) (drop l.k l.marks) ≤ length l.words;
+  first : l.k ≡ 0 → (l.from ≡ 0) × (take l.held l.words ≡ take l.fn.held l.fn.words);
+  sign : 0 < l.k → KeepsSign (take l.fn.held l.fn.words) (take l.held l.words) (first_text l.seen l.items l.marks);
 }

@@ -8,9 +8,11 @@ invariant-loop-words l = record {
   from : l.at + 1 ≤ l.next;
   within : l.next ≤ length l.items;
   wide : l.fn.setting.extent ≡ Wide;
-  budget : length l.words.items + owed_group (length (waiting_values l.group))
-      (row l.fn.setting (drop l.next l.items)).edifact ≤ l.total;
-  so_far : IsEdifactSoFar l.fn.words.items l.words.items l.group (take (l.next - l.at) (drop l.at l.items));
+  held : l.held ≤ length l.words;
+  budget : length (take l.held l.words) + owed_group (length (waiting_values l.group))
+      (row l.fn.setting (drop l.next l.items)).edifact ≤ length l.words;
+  so_far : IsEdifactSoFar (take l.fn.held l.fn.words) (take l.held l.words) l.group
+      (take (l.next - l.at) (drop l.at l.items));
 }
 
 abbrev pub decreases-loop-words : goal.decreases-loop-words

@@ -1,5 +1,5 @@
 use Rattle.dm_words.proofs.Names.{◌≡◌, ◌∙◌, ℕ, ◌+◌, ◌-◌, ◌++◌, List, length, drop, get_or, ap, sym, subst, arith}
-use Rattle.dm_words.proofs.Names.{false, rules, length-append, take_rest, drop_all, All-drop, All-take, Usual, Item}
+use Rattle.dm_words.proofs.Names.{false, rules, take, take_rest, drop_all, All-drop, All-take, Usual, Item}
 use Rattle.dm_words.proofs.Names.{Fnc1, byte_of, IsItem, digit_pair, has_fnc1, parts_cost, unit_words, nat_tests}
 use Rattle.dm_words.proofs.CostsMet.{nothing_costs}
 use Rattle.dm_words.proofs.SegmentBudget.{rest_is}
@@ -12,21 +12,20 @@ use Rattle.dm_words.proofs.smallest.parts.write_part.Goals.{After-byte}
 pub write_unit-one-requires : goal.write_unit-one-requires
 write_unit-one-requires c =
     let p = one_paid c.args.setting c.args.items.now c.args.at Fnc1 _ c.requires.at
-    (c.requires.plan c.args.at _ (omega (arith, c.requires.at))) (length c.args.words.now.items) c.args.total
+    (c.requires.plan c.args.at _ (omega (arith, c.requires.at))) c.args.held.now (length c.args.words.now)
     c.requires.budget (sym c.begin.ensures ∙ c.in-One.is) in
     omega (arith, ap length c.unit_of.ensures.words, length-item_words (get_or c.args.items.now c.args.at Fnc1))
 
 pub returns-in-One-clause-budget : goal.returns-in-One-clause-budget
 returns-in-One-clause-budget c =
     let p = one_paid c.args.setting c.args.items.now c.args.at Fnc1 _ c.requires.at
-    (c.requires.plan c.args.at _ (omega (arith, c.requires.at))) (length c.args.words.now.items) c.args.total
+    (c.requires.plan c.args.at _ (omega (arith, c.requires.at))) c.args.held.now (length c.args.words.now)
     c.requires.budget (sym c.begin.ensures ∙ c.in-One.is) in
     omega (
       arith,
       ap length c.unit_of.ensures.words,
       length-item_words (get_or c.args.items.now c.args.at Fnc1),
-      ap length c.write_unit-one.ensures.words,
-      length-append c.args.words.now.items (unit_words c.unit_of.result),
+      c.write_unit-one.ensures.counted,
     )
 
 pub returns-in-One-clause-part : goal.returns-in-One-clause-part
@@ -37,11 +36,11 @@ returns-in-One-clause-usual c = grind (arith, nat_tests, one_written, unit_words
 
 -- Two digits that the plan begins with are there, and paid.
 pair : (c : After-byte)
-    → IsPairAt c.args.setting c.args.items.now c.args.at Fnc1 (length c.args.words.now.items) c.args.total
+    → IsPairAt c.args.setting c.args.items.now c.args.at Fnc1 c.args.held.now (length c.args.words.now)
 pair c =
     pair_paid c.args.setting c.args.items.now c.args.at Fnc1 _ c.requires.at
-    (c.requires.plan c.args.at _ (omega (arith, c.requires.at))) (length c.args.words.now.items) c.args.total
-    c.requires.budget (omega (arith, c.requires.total)) (sym c.begin.ensures ∙ c.in-Two.is)
+    (c.requires.plan c.args.at _ (omega (arith, c.requires.at))) c.args.held.now (length c.args.words.now)
+    c.requires.budget (omega (arith, c.requires.short)) (sym c.begin.ensures ∙ c.in-Two.is)
 
 pub bounds-items-at-in-Two-2 : goal.bounds-items-at-in-Two-2
 bounds-items-at-in-Two-2 c = (pair (goal.at.bounds-items-at-in-Two-2 c).After-byte).second_there
@@ -56,9 +55,8 @@ digit_pair-requires-clause-ones c =
     let q = pair (goal.at.digit_pair-requires-clause-ones c).After-byte in
     digit_byte (get_or c.args.items.now (c.args.at + 1) Fnc1) _ q.second c.byte-in-Two.ensures
 
-pub push-requires : goal.push-requires
-push-requires c =
-    let q = pair (goal.at.push-requires c).After-byte in (omega arith, omega (arith, q.paid, c.requires.total))
+pub add-requires : goal.add-requires
+add-requires c = let q = pair (goal.at.add-requires c).After-byte in omega (arith, q.paid)
 
 pub returns-in-Two-clause-within : goal.returns-in-Two-clause-within
 returns-in-Two-clause-within c = let q = pair (goal.at.returns-in-Two-clause-within c).After-byte in omega arith
@@ -72,7 +70,7 @@ returns-in-Two-clause-part c =
     let word : c.digit_pair.result ≡ digit_pair (byte_of (get_or c.args.items.now c.args.at Fnc1))
     (byte_of (get_or c.args.items.now (c.args.at + 1) Fnc1)) = cc
     (c.digit_pair.ensures, c.byte.ensures, c.byte-in-Two.ensures) in
-    two_written _ _ _ _ _ _ _ Fnc1 q.second_there q.first q.second word c.push.ensures.items
+    two_written _ _ _ _ _ _ _ Fnc1 q.second_there q.first q.second word c.add.ensures.added
 
 pub returns-in-Two-clause-usual : goal.returns-in-Two-clause-usual
 returns-in-Two-clause-usual c = λ usual.
@@ -80,20 +78,20 @@ returns-in-Two-clause-usual c = λ usual.
     let word : c.digit_pair.result ≡ digit_pair (byte_of (get_or c.args.items.now c.args.at Fnc1))
     (byte_of (get_or c.args.items.now (c.args.at + 1) Fnc1)) = cc
     (c.digit_pair.ensures, c.byte.ensures, c.byte-in-Two.ensures) in
-    two_written Usual _ _ _ _ _ _ Fnc1 q.second_there q.first q.second word c.push.ensures.items
+    two_written Usual _ _ _ _ _ _ Fnc1 q.second_there q.first q.second word c.add.ensures.added
 
 pub write_run-requires : goal.write_run-requires
 write_run-requires c =
     let budget =
     run_paid c.args.setting c.args.items.now c.args.at Fnc1 _ c.requires.at
-    (c.requires.plan c.args.at _ (omega (arith, c.requires.at))) (length c.args.words.now.items) c.args.total
+    (c.requires.plan c.args.at _ (omega (arith, c.requires.at))) c.args.held.now (length c.args.words.now)
     c.requires.budget c.in-Run.set (sym c.begin.ensures ∙ c.in-Run.is) in record {
       at = c.requires.at;
       few = c.requires.few;
       steps = c.requires.steps;
       plan = c.requires.plan;
       budget = budget;
-      total = c.requires.total;
+      short = c.requires.short;
     }
 
 pub write_edifact-requires : goal.write_edifact-requires
@@ -105,9 +103,9 @@ segment_end-end-requires-clause-byte c = grind (arith, nat_tests, segment_paid)
 pub write_segment-requires-in-Rest : goal.write_segment-requires-in-Rest
 write_segment-requires-in-Rest c =
     let p = rest_paid c.args.setting c.args.items.now c.args.at Fnc1 _ c.requires.at
-    (c.requires.plan c.args.at _ (omega (arith, c.requires.at))) (length c.args.words.now.items) c.args.total
+    (c.requires.plan c.args.at _ (omega (arith, c.requires.at))) c.args.held.now (length c.args.words.now)
     c.requires.budget (sym c.begin.ensures ∙ c.in-Rest.is) in
-    let rest = rest_is c.args.setting (drop c.args.at c.args.items.now) (omega (arith, p, c.requires.total)) in
+    let rest = rest_is c.args.setting (drop c.args.at c.args.items.now) (omega (arith, p, c.requires.short)) in
     let bytes = subst (λ (l : List Item). has_fnc1 l ≡ false) (sym (take_rest c.args.items.now c.args.at)) rest.0 in
     let message =
     All-take IsItem (length c.args.items.now - c.args.at) (drop c.args.at c.args.items.now)
@@ -116,7 +114,7 @@ write_segment-requires-in-Rest c =
       bytes = bytes;
       message = message;
       room = omega (arith, p, rest.1, ap length (take_rest c.args.items.now c.args.at));
-      total = c.requires.total;
+      short = c.requires.short;
     }
 
 pub returns-in-Rest-clause-budget : goal.returns-in-Rest-clause-budget
@@ -124,10 +122,12 @@ returns-in-Rest-clause-budget c = grind (arith, nat_tests, rest_paid, rest_is, p
 
 pub returns-in-One-clause-sign : goal.returns-in-One-clause-sign
 returns-in-One-clause-sign c =
-    one_passes c.args.setting c.args.items.now c.args.at Fnc1 _ c.args.words.now.items c.write_unit-one.new.words.items
+    one_passes c.args.setting c.args.items.now c.args.at Fnc1 _ (take c.args.held.now c.args.words.now)
+    (take c.write_unit-one.new.held c.write_unit-one.new.words)
     c.requires.behind c.requires.few c.requires.at (c.requires.plan c.args.at _ (omega (arith, c.requires.at)))
     (sym c.begin.ensures ∙ c.in-One.is)
-    (c.write_unit-one.ensures.words ∙ ap (λ (l : List ℕ). c.args.words.now.items ++ l) c.unit_of.ensures.words)
+    (c.write_unit-one.ensures.words
+    ∙ ap (λ (l : List ℕ). take c.args.held.now c.args.words.now ++ l) c.unit_of.ensures.words)
 
 pub returns-in-Two-clause-sign : goal.returns-in-Two-clause-sign
 returns-in-Two-clause-sign c =
@@ -135,12 +135,13 @@ returns-in-Two-clause-sign c =
     let word : c.digit_pair.result ≡ digit_pair (byte_of (get_or c.args.items.now c.args.at Fnc1))
     (byte_of (get_or c.args.items.now (c.args.at + 1) Fnc1)) = cc
     (c.digit_pair.ensures, c.byte.ensures, c.byte-in-Two.ensures) in
-    two_passes _ _ Fnc1 _ _ q.second_there q.first q.second _ word c.push.ensures.items
+    two_passes _ _ Fnc1 _ _ q.second_there q.first q.second _ word c.add.ensures.added
 
 pub returns-in-Run-clause-sign : goal.returns-in-Run-clause-sign
 returns-in-Run-clause-sign c =
     let w = c.write_run.ensures.part c.args.setting.extent in
-    other_passes c.args.setting c.args.items.now c.args.at Fnc1 _ c.args.words.now.items c.write_run.new.words.items
+    other_passes c.args.setting c.args.items.now c.args.at Fnc1 _ (take c.args.held.now c.args.words.now)
+    (take c.write_run.new.held c.write_run.new.words)
     c.requires.behind c.requires.few c.requires.at (c.requires.plan c.args.at _ (omega (arith, c.requires.at)))
     (drop c.write_run.result c.args.items.now) w.part
     (λ e. (let f = sym c.in-Run.is ∙ c.begin.ensures ∙ e in cc))
@@ -149,8 +150,8 @@ returns-in-Run-clause-sign c =
 pub returns-in-Edifact-clause-sign : goal.returns-in-Edifact-clause-sign
 returns-in-Edifact-clause-sign c =
     let w = c.write_edifact.ensures.part in
-    other_passes c.args.setting c.args.items.now c.args.at Fnc1 _ c.args.words.now.items
-    c.write_edifact.new.words.items
+    other_passes c.args.setting c.args.items.now c.args.at Fnc1 _ (take c.args.held.now c.args.words.now)
+    (take c.write_edifact.new.held c.write_edifact.new.words)
     c.requires.behind c.requires.few c.requires.at (c.requires.plan c.args.at _ (omega (arith, c.requires.at)))
     (drop c.write_edifact.result c.args.items.now) w.part
     (λ e. (let f = sym c.in-Edifact.is ∙ c.begin.ensures ∙ e in cc))
@@ -159,8 +160,8 @@ returns-in-Edifact-clause-sign c =
 pub returns-in-Segment-clause-sign : goal.returns-in-Segment-clause-sign
 returns-in-Segment-clause-sign c =
     let w = c.write_segment.ensures.part c.args.setting.extent in
-    other_passes c.args.setting c.args.items.now c.args.at Fnc1 _ c.args.words.now.items
-    c.write_segment.new.words.items
+    other_passes c.args.setting c.args.items.now c.args.at Fnc1 _ (take c.args.held.now c.args.words.now)
+    (take c.write_segment.new.held c.write_segment.new.words)
     c.requires.behind c.requires.few c.requires.at (c.requires.plan c.args.at _ (omega (arith, c.requires.at)))
     (drop c.segment_end-end.result c.args.items.now) w.part
     (λ e. (let f = sym c.in-Segment.is ∙ c.begin.ensures ∙ e in cc))
@@ -169,8 +170,8 @@ returns-in-Segment-clause-sign c =
 pub returns-in-Rest-clause-sign : goal.returns-in-Rest-clause-sign
 returns-in-Rest-clause-sign c =
     let w = c.write_segment-in-Rest.ensures.part c.args.setting.extent in
-    other_passes c.args.setting c.args.items.now c.args.at Fnc1 _ c.args.words.now.items
-    c.write_segment-in-Rest.new.words.items
+    other_passes c.args.setting c.args.items.now c.args.at Fnc1 _ (take c.args.held.now c.args.words.now)
+    (take c.write_segment-in-Rest.new.held c.write_segment-in-Rest.new.words)
     c.requires.behind c.requires.few c.requires.at (c.requires.plan c.args.at _ (omega (arith, c.requires.at)))
     (drop (length c.args.items.now) c.args.items.now) w.part
     (λ e. (let f = sym c.in-Rest.is ∙ c.begin.ensures ∙ e in cc))

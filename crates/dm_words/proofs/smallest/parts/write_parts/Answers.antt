@@ -1,4 +1,5 @@
-use Rattle.dm_words.proofs.Names.{◌≡◌, ◌+◌, ◌-◌, ◌++◌, List, take, drop, subst, arith, drop_all, take-add, Extent}
+use Rattle.dm_words.proofs.Names.{◌≡◌, ◌+◌, ◌-◌, ◌++◌, List, length, take, drop, subst, arith, drop_all, take-add}
+use Rattle.dm_words.proofs.Names.{Extent}
 use Rattle.dm_words.proofs.Names.{Usual, Item, IsPartWritten, ArePartsWritten, parts_cost, nat_tests}
 use Rattle.std.proofs.lemmas.Bool.{and_parts}
 use Rattle.dm_words.proofs.CostsMet.{nothing_costs}
@@ -10,8 +11,8 @@ pub loop-at-init : goal.loop-at-init
 loop-at-init c = record {
   within = omega arith;
   budget = c.requires.budget;
-  parts = no_parts c.args.setting.extent c.args.total c.args.words.now.items;
-  usual = λ all. no_parts Usual c.args.total c.args.words.now.items;
+  parts = no_parts c.args.setting.extent (length c.args.words.now) (take c.args.held.now c.args.words.now);
+  usual = λ all. no_parts Usual (length c.args.words.now) (take c.args.held.now c.args.words.now);
   sign = λ after k. k;
 }
 
@@ -21,17 +22,20 @@ loop-at-preserved c =
     let at = c.loop-at.at in
     let next = c.write_part-part.result.next in
     let w = c.write_part-part.ensures in
-    let base = c.args.words.now.items in
-    let old = c.loop-at.words.items in
-    let new = c.write_part-part.new.words.items in
+    let base = take c.args.held.now c.args.words.now in
+    let old = take c.loop-at.held c.loop-at.words in
+    let new = take c.write_part-part.new.held c.write_part-part.new.words in
+    let total = length c.args.words.now in
+    let same : length c.loop-at.words ≡ total = omega arith in
     let sum : at + (next - at) ≡ next = omega (arith, w.further) in
     let more : take at m ++ take (next - at) (drop at m) ≡ take next m = cc (take-add at (next - at) m) in
-    let joined = λ (e : Extent) (before : ArePartsWritten e c.args.total base old (take at m))
-    (part : IsPartWritten e c.args.total old new (take (next - at) (drop at m))). subst
-    (λ (l : List Item). ArePartsWritten e c.args.total base new l) more (parts_more e _ _ _ _ _ _ before part) in
+    let joined = λ (e : Extent) (before : ArePartsWritten e total base old (take at m))
+    (part : IsPartWritten e (length c.loop-at.words) old new (take (next - at) (drop at m))). subst
+    (λ (l : List Item). ArePartsWritten e total base new l) more
+    (parts_more e _ _ _ _ _ _ before (rw same at part)) in
     record {
       within = w.within;
-      budget = w.budget;
+      budget = omega (arith, w.budget);
       parts = joined c.args.setting.extent c.loop-at.invariant.parts w.part;
       usual = λ all.
           (let each = and_parts c.loop-at.are_usual c.write_part-part.result.is_usual all in

@@ -12,6 +12,6 @@ push_values-requires c =
       room = rw c.deref.ensures.0 (omega (arith, spelling_count c.args.set values c.args.item spells, c.requires.room));
     }
 
-pub returns : goal.returns
-returns c =
-    (c.values_of-values.result.items, c.values_of-values.ensures, rw c.deref.ensures.0 at c.push_values.ensures)
+pub returns-clause-pushed : goal.returns-clause-pushed
+returns-clause-pushed c =
+    (c.values_of-values.result.items, c.values_of-values.ensures, rw c.deref.ensures.0 at c.push_values.ensures.pushed)
