@@ -5,7 +5,7 @@ of the crate as a function of its own, named as the edit is, beside the function
 the check is asked for these functions and what they call alone. A method of a trait can't stand beside itself, so its
 wrong body takes its place. Where an edit changes several functions, each one is tried by itself. A function is refused
 where something of its own is, and not only what it calls. Where the table must-fail/goals.md names a goal, that is the
-answer to this goal, and goals without an answer aren't tried. The crates below are taken as they were proved last.
+answer to this goal, and other goals aren't tried. The crates below are taken as they were proved last.
 
 Nothing else is proved in the copy, since tests/proofs does that: each other function is an endless loop there, and a
 hole stands for its proof and for that of each lemma. The check goes on past it, so that a lemma is taken by what it
@@ -154,6 +154,8 @@ def write_copy(crate, edits, room):
                 above = [*(it for it in above if "#[tactic(" not in it), "#[tactic(none)]"]
             lines[function.end : function.end] = ["", *above, head, *edit.lines[1:]]
             copy_proof(crate, room, function.path, judged(edit))
+            if edit.by:
+                leave_answers_out(edit.by, os.path.join(room, "proofs", *judged(edit).split("::"), "Answers.antt"))
         places.wrote("\n".join(lines), path)
 
 
@@ -185,6 +187,13 @@ def copy_proof(crate, room, path, to):
     module, copied = [f"Rattle.{crate}.proofs.{it.replace('::', '.')}" for it in (path, to)]
     for file in glob.glob(f"{now}/*.antt"):
         places.wrote(re.sub(rf"{re.escape(module)}\b", copied, places.text_of(file)), file)
+
+
+def leave_answers_out(goal, path):
+    """Leaves only the answer to this goal, and lemmas, in a file of answers."""
+    answered = lambda part: re.search(r"(?m)^pub (\S+) :\s+goal\.", part)
+    parts = re.split(r"\n\n(?=\S)", places.text_of(path))
+    places.wrote("\n\n".join(it for it in parts if not answered(it) or answered(it)[1] == goal), path)
 
 
 def leave_proofs_out(crate, edits, stubs, room):
