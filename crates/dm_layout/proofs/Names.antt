@@ -21,7 +21,8 @@ pub use Rattle.dm_layout.specs.symbols.Sizes.{most_block_check, most_blocks, mos
 pub use Rattle.dm_layout.specs.symbols.Sizes.{most_data, most_modules, most_rows, size_table, takes}
 pub use Rattle.dm_layout.specs.symbols.Symbols.{IsSymbol, SymbolView, is_dark_bit, module_at, rows_by}
 pub use Rattle.dm_layout.specs.symbols.Words.{AreOfSize, IsWords, WordsView, first_words, words_with}
-pub use Rattle.dm_layout.specs.symbols.inner.BorderMasks.{AreBorders, AreRuled, is_sure_fault, sure_faults_in}
+pub use Rattle.dm_layout.specs.symbols.inner.BorderMasks.{AreBorders, AreRuled, sure_faults_in}
+pub use Rattle.dm_layout.specs.symbols.SureFaults.{is_sure_fault}
 pub use Rattle.dm_layout.specs.symbols.inner.Drawing.{drawn_colour, inner_colour, mapping_line}
 pub use Rattle.dm_layout.specs.symbols.inner.Keeping.{AreKeptIn, kept_symbol}
 pub use Rattle.dm_layout.specs.symbols.inner.Laying.{by_anchors, corner_marks, folded, lowered, moved_in, scattered}

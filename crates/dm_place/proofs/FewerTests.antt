@@ -7,8 +7,7 @@ use Rattle.std.specs.List.{range_with_len}
 use Rattle.std.proofs.lemmas.Bool.{and_parts, eqb-true, eqb-false, leb-true, ltb-true}
 use Rattle.dm_place.specs.declared.shape.Shape.{Shape}
 use Rattle.dm_place.specs.declared.shape.Shape.TheVariants.{Standard}
-use Rattle.dm_place.specs.Placement.{shapes, corner_before, in_even_row, in_odd_row, is_anchor}
-use Rattle.dm_place.specs.inner.Walking.{shapes_of_sum}
+use Rattle.dm_place.specs.Placement.{shapes, shapes_of_sum, corner_before, in_even_row, in_odd_row, is_anchor}
 
 -- These are the shapes of sum s, where rows are tested only if an anchor of this sum may lie in them.
 abbrev few_of_sum : ℕ → ℕ → ℕ → List Shape

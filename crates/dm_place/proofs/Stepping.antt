@@ -8,9 +8,9 @@ use Rattle.std.proofs.lemmas.Bool.{cases_lt, eqb-true}
 use Rattle.dm_place.specs.declared.shape.Shape.{Shape}
 use Rattle.dm_place.specs.declared.shapes.Part.{Part}
 use Rattle.dm_place.specs.declared.shapes.Part.TheVariants.{Corner, Even, Odd}
-use Rattle.dm_place.specs.Placement.{corner_before, in_even_row, in_odd_row}
+use Rattle.dm_place.specs.Placement.{corner_before, in_even_row, in_odd_row, shapes_of_sum}
 use Rattle.dm_place.proofs.FewerTests.{none_of, none_even, none_odd, none_in_column, none_in_row}
-use Rattle.dm_place.specs.inner.Walking.{from_sum, left_at, shapes_of_sum}
+use Rattle.dm_place.specs.inner.Walking.{from_sum, left_at}
 
 -- What a range gives begins with what its first number gives.
 pub first_of : (f : ℕ → List Shape) (i n : ℕ) → i < n →

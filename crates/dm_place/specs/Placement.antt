@@ -133,13 +133,16 @@ corner_before rows columns s =
       ]
     ]
 
--- The shapes of a mapping matrix are ordered by rising sum of row and column; each takes the next codeword. Those of
--- one sum are the corner that comes before its anchors, if any, then those with anchors in even rows by rising column,
--- and then those with anchors in odd rows by rising row.
+-- The shapes of sum s are the corner that comes before its anchors, if any, then those with anchors in even rows by
+-- rising column, and then those with anchors in odd rows by rising row.
+abbrev pub shapes_of_sum : ℕ → ℕ → ℕ → List Shape
+shapes_of_sum rows columns s =
+    corner_before rows columns s ++ flat_map (in_even_row rows columns s) (range_with_len 0 columns)
+    ++ flat_map (in_odd_row rows columns s) (range_with_len 0 rows)
+
+-- The shapes of a mapping matrix are ordered by rising sum of row and column; each takes the next codeword.
 unfoldable pub shapes : ℕ → ℕ → List Shape
-shapes rows columns =
-    flat_map (λ s. corner_before rows columns s ++ flat_map (in_even_row rows columns s) (range_with_len 0 columns)
-    ++ flat_map (in_odd_row rows columns s) (range_with_len 0 rows)) (range_with_len 0 (rows + columns - 1))
+shapes rows columns = flat_map (shapes_of_sum rows columns) (range_with_len 0 (rows + columns - 1))
 
 -- ---- places
 

@@ -47,7 +47,8 @@ pub use Rattle.dm_symbol.specs.declared.symbol.dealing.Dealing.TheVariants.{Rest
 pub use Rattle.dm_symbol.specs.declared.symbol.inspection.SymbolInspectionIn.{SymbolInspectionIn}
 pub use Rattle.dm_symbol.specs.declared.symbol.reading.BlockReading.{BlockReading}
 pub use Rattle.dm_symbol.specs.inner.Marks.{is_mark, marked_in}
-pub use Rattle.dm_symbol.specs.inner.Restoring.{AreBlocksNear, AreHeldBy, IsRestarted, block_readings}
+pub use Rattle.dm_symbol.specs.inner.Restoring.{AreHeldBy, IsRestarted}
+pub use Rattle.dm_symbol.specs.SymbolReading.{AreBlocksNear, block_readings}
 pub use Rattle.dm_symbol.specs.inner.Showing.{IsMended}
 pub use Rattle.dm_symbol.specs.inner.Turns.{turned, turned_place}
 pub use Rattle.dm_words.proofs.Exported.{identifier_is_there, said_is_one, said_wide, usual_plain}

@@ -79,13 +79,8 @@ pub data ContentReadResult (extent : Extent) (modules : SymbolView) (doubtful : 
       → sure_fault_count modules doubtful ≤ limit → AreRestored extent modules doubtful dealing words codewords
       → Says extent (first_data modules.size codewords) content
       → IsIdentifier (first_data modules.size codewords) content identifier
-      → result ≡ Ok (record {
-        content = content;
-        identifier = identifier;
-        dealing = dealing;
-        blocks = readings_by dealing modules.size doubtful words codewords;
-        border_faults = sure_fault_count modules doubtful;
-      })
+      → result ≡ Ok (content_reading_of content identifier dealing
+      (readings_by dealing modules.size doubtful words codewords) (sure_fault_count modules doubtful))
       → ContentReadResult extent modules doubtful limit result
 
 -- The result is a reading of this content.

@@ -23,18 +23,22 @@ pub record IsFirstLost (size : SizeEntry) (erased : ℕ → List ℕ) (words : L
   pub first : (earlier : ℕ) → earlier < block →
       (codeword : List ℕ) × IsNearBut (block_check size) (block_of size.blocks earlier words) (erased earlier) codeword
 
+-- Block b of the words is near to block b of the codewords, for each b, but for its erased places: the latter is a
+-- codeword of its Reed-Solomon code, and twice the number of other places at which they differ, and the number of
+-- erased ones, are together no more than the block has check codewords.
+abbrev pub AreBlocksNear : SizeEntry → (ℕ → List ℕ) → List ℕ → List ℕ → Type 0
+AreBlocksNear size erased words codewords =
+    (b : ℕ) → b < size.blocks →
+    IsNearBut (block_check size) (block_of size.blocks b words) (erased b) (block_of size.blocks b codewords)
+
 -- The codewords are those of a symbol of this size, and each block of the words, which the modules hold, is near to the
--- same block of them but for what is doubtful, both dealt so: this is a codeword of its Reed-Solomon code, and twice
--- the number of other places at which both differ, and the number of erased ones, are together no more than the block
--- has check codewords.
+-- same block of them but for what is doubtful, both dealt so.
 pub record AreRestoredBy (dealing : Dealing) (modules : SymbolView) (doubtful : Option SymbolView)
     (words codewords : List ℕ) : Type 0 where
   pub words_held : Holds modules (words_with modules.size words)
   pub of_size : IsWords (words_with modules.size codewords)
-  pub near : (b : ℕ) → b < modules.size.blocks →
-      IsNearBut (block_check modules.size) (block_of modules.size.blocks b (dealt dealing modules.size words))
-      (erased_by dealing modules.size doubtful b)
-      (block_of modules.size.blocks b (dealt dealing modules.size codewords))
+  pub near : AreBlocksNear modules.size (erased_by dealing modules.size doubtful) (dealt dealing modules.size words)
+      (dealt dealing modules.size codewords)
 
 -- The words, which the modules hold, are restored to the codewords in an extent: near to them by the standard's
 -- dealing; or by the other, which is tried in `Wide`, of 144 x 144, where a block is lost by the standard's. That other
@@ -76,9 +80,13 @@ AreBlocksMended size erased words mended readings =
     (b : ℕ) → b < size.blocks → IsBlockRestored (block_check size) (erased b) (block_of size.blocks b words)
     (block_of size.blocks b mended) (get_or readings b None)
 
+-- What reading says of the blocks of a symbol, in order.
+abbrev pub block_readings : SizeEntry → (ℕ → List ℕ) → List ℕ → List ℕ → List BlockReading
+block_readings size erased words codewords =
+    map (λ b. block_reading (block_check size) (erased b) (block_of size.blocks b words)
+    (block_of size.blocks b codewords)) (range_with_len 0 size.blocks)
+
 -- What reading says of the blocks of a symbol that is restored by a dealing, in order.
 abbrev pub readings_by : Dealing → SizeEntry → Option SymbolView → List ℕ → List ℕ → List BlockReading
 readings_by dealing size doubtful words codewords =
-    map (λ b. block_reading (block_check size) (erased_by dealing size doubtful b)
-    (block_of size.blocks b (dealt dealing size words)) (block_of size.blocks b (dealt dealing size codewords)))
-    (range_with_len 0 size.blocks)
+    block_readings size (erased_by dealing size doubtful) (dealt dealing size words) (dealt dealing size codewords)

@@ -51,8 +51,8 @@ pub use Rattle.ecc200_calls.specs.declared.place_table.PlaceOut.{PlaceOut}
 pub use Rattle.ecc200_calls.specs.declared.symbol.SymbolOut.{SymbolOut}
 pub use Rattle.ecc200_calls.specs.inner.PlaceSteps.{structure_by, structure_place, with_bits}
 pub use Rattle.ecc200_calls.specs.inner.Restored.{HasRoomToSay, IsAtLimit, IsRestored, IsRestoredFor}
-pub use Rattle.ecc200_calls.specs.inner.UnpackedCells.{is_dark_number, is_dark_number as is_dark, unpacked_cells}
-pub use Rattle.ecc200_calls.specs.inner.UnpackedCells.{unpacked_row}
+pub use Rattle.ecc200_calls.specs.inner.UnpackedCells.{unpacked_cells, unpacked_row}
+pub use Rattle.ecc200_calls.specs.Modules.{is_dark_number, is_dark_number as is_dark}
 pub use Rattle.std.proofs.Common.{Bool, Err, Fits, IsSome, List, None, Ok, Option, Result, Some, [], ap, arith}
 pub use Rattle.std.proofs.Common.{below_more, bit_and, bit_or, cond, drop, eqb, false, get_or, get_or-set_other}
 pub use Rattle.std.proofs.Common.{get_or-set_same, inl, inr, length, length-append, length-take, map, min, mul_comm}

@@ -14,11 +14,15 @@ module_of dark = if dark then 1 else 0
 abbrev pub modules_of : SymbolView → List ℕ
 modules_of symbol = flat_map (map module_of) symbol.rows
 
--- These are the modules of the symbol, whose size has these rows and columns; any number but 0 is a dark module.
+-- Where a number is given for each module, any number but 0 stands for a dark one.
+abbrev pub is_dark_number : ℕ → Bool
+is_dark_number number = not (nat_eq number 0)
+
+-- These are the modules of the symbol, whose size has these rows and columns.
 pub record AreModulesOf (rows columns : ℕ) (modules : List ℕ) (symbol : SymbolView) : Type 0 where
   pub count : length modules ≡ rows * columns
   pub size : entry_with rows columns ≡ Some symbol.size
-  pub colours : symbol.rows ≡ rows_of rows columns (map (λ number. not (nat_eq number 0)) modules)
+  pub colours : symbol.rows ≡ rows_of rows columns (map is_dark_number modules)
 
 -- No module is doubtful where no numbers are given; where some are, those modules are whose number isn't 0.
 pub data AreDoubtful (rows columns : ℕ) (numbers : List ℕ) (doubtful : Option SymbolView) : Type 0 where

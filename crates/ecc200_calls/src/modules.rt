@@ -7,8 +7,8 @@ ghost use Rattle.std.specs.Simd.Lanes.{mask_l};
 ghost use Rattle.dm_layout.specs.symbols.Symbols.{is_dark_bit};
 ghost use Rattle.dm_layout.specs.symbols.Sizes.{area};
 ghost use Rattle.ecc200_calls.specs.Arrays.{over};
-ghost use Rattle.ecc200_calls.specs.Modules.{AreModulesOf, module_of, modules_of};
-ghost use Rattle.ecc200_calls.specs.inner.UnpackedCells.{is_dark_number, unpacked_cells, unpacked_row};
+ghost use Rattle.ecc200_calls.specs.Modules.{AreModulesOf, is_dark_number, module_of, modules_of};
+ghost use Rattle.ecc200_calls.specs.inner.UnpackedCells.{unpacked_cells, unpacked_row};
 
 use dm_layout::symbols::{MOST_COLUMNS, SymbolIn};
 use std::simd::prelude::*;

@@ -11,8 +11,12 @@ is_doubtful None row column = false
 is_doubtful (Some doubtful) row column = module_at doubtful row column
 
 -- A border fault is sure if the module isn't doubtful: a border module has the wrong colour, and there is no doubt of
--- its colour. The sure border faults of a symbol are counted over all its modules.
+-- its colour.
+abbrev pub is_sure_fault : SymbolView → Option SymbolView → ℕ → ℕ → Bool
+is_sure_fault modules doubtful row column = is_fault modules row column && not (is_doubtful doubtful row column)
+
+-- The sure border faults of a symbol are counted over all its modules.
 abbrev pub sure_fault_count : SymbolView → Option SymbolView → ℕ
 sure_fault_count modules doubtful =
-    sum_by (λ row. count_by (λ column. is_fault modules row column && not (is_doubtful doubtful row column))
-    (range_with_len 0 modules.size.columns)) (range_with_len 0 modules.size.rows)
+    sum_by (λ row. count_by (is_sure_fault modules doubtful row) (range_with_len 0 modules.size.columns))
+    (range_with_len 0 modules.size.rows)

@@ -25,9 +25,7 @@ rows_by rows columns colour = map (λ row. map (colour row) (range_with_len 0 co
 
 -- These are the rows of modules that are listed row by row from the top.
 abbrev pub rows_of : ℕ → ℕ → List Bool → List (List Bool)
-rows_of rows columns list =
-    map (λ row. map (λ column. get_or list (row * columns + column) false) (range_with_len 0 columns))
-    (range_with_len 0 rows)
+rows_of rows columns list = rows_by rows columns (λ row column. get_or list (row * columns + column) false)
 
 -- In a row that is written as a number, the module of a column, counted from 0 at the left, is the bit of weight
 -- 2^column; 1 is dark.

@@ -5,8 +5,8 @@ ghost use Rattle.std.specs.Prelude.{Option, Some, None, IfSome};
 ghost use Rattle.std.specs.List.{range_with_len};
 ghost use Rattle.dm_layout.specs.symbols.Symbols.{SymbolView, is_dark_bit};
 ghost use Rattle.dm_layout.specs.symbols.Sizes.{most_columns};
-ghost use Rattle.dm_layout.specs.symbols.SureFaults.{is_doubtful, sure_fault_count};
-ghost use Rattle.dm_layout.specs.symbols.inner.BorderMasks.{AreBorderCells, AreDarkCells, is_sure_fault};
+ghost use Rattle.dm_layout.specs.symbols.SureFaults.{is_doubtful, is_sure_fault, sure_fault_count};
+ghost use Rattle.dm_layout.specs.symbols.inner.BorderMasks.{AreBorderCells, AreDarkCells};
 ghost use Rattle.dm_layout.specs.symbols.inner.BorderMasks.{sure_faults_in, sure_part};
 ghost use Rattle.dm_layout.specs.symbols.inner.Reading.{whole_row};
 

@@ -5,14 +5,8 @@ use Rattle.dm_place.specs.declared.shape.Shape.{Shape}
 use Rattle.dm_place.specs.declared.shapes.Part.{Part}
 use Rattle.dm_place.specs.declared.shapes.Part.TheVariants.{Corner, Even, Odd}
 use Rattle.dm_place.specs.declared.shapes.Steps.{Steps}
-use Rattle.dm_place.specs.Placement.{corner_before, in_even_row, in_odd_row}
+use Rattle.dm_place.specs.Placement.{in_even_row, in_odd_row, shapes_of_sum}
 use Rattle.dm_place.specs.Sides.{SidesAreSafe}
-
--- These shapes have sum s.
-abbrev pub shapes_of_sum : ℕ → ℕ → ℕ → List Shape
-shapes_of_sum rows columns s =
-    corner_before rows columns s ++ flat_map (in_even_row rows columns s) (range_with_len 0 columns)
-    ++ flat_map (in_odd_row rows columns s) (range_with_len 0 rows)
 
 -- These shapes have sum s or more.
 abbrev pub from_sum : ℕ → ℕ → ℕ → List Shape

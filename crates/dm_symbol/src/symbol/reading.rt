@@ -9,8 +9,7 @@ ghost use Rattle.dm_symbol.specs.inner.Marks.{marked_in};
 ghost use Rattle.dm_symbol.specs.ContentReading.{ContentReadResult};
 ghost use Rattle.dm_symbol.specs.Restored.{IsRestored};
 ghost use Rattle.dm_symbol.specs.SymbolBlocks.{AreOfSize};
-ghost use Rattle.dm_symbol.specs.SymbolReading.{IsFirstLost};
-ghost use Rattle.dm_symbol.specs.inner.Restoring.{AreBlocksNear, block_readings};
+ghost use Rattle.dm_symbol.specs.SymbolReading.{AreBlocksNear, IsFirstLost, block_readings};
 
 use crate::contents::ContentReadFault;
 use crate::symbol::correction::{mark, restore_block};

@@ -1,12 +1,8 @@
--- Modules of a row that are packed or unpacked together.
-use Rattle.std.specs.Prelude.{ℕ, ◌-◌, Bool, not, nat_eq, List, ◌++◌, map, min}
+-- Modules of a row that are unpacked together.
+use Rattle.std.specs.Prelude.{ℕ, ◌-◌, List, ◌++◌, map, min}
 use Rattle.std.specs.List.{range_with_len}
 use Rattle.dm_layout.specs.symbols.Symbols.{is_dark_bit}
 use Rattle.ecc200_calls.specs.Modules.{module_of}
-
--- Where a number is given for each module, any number but 0 stands for a dark one.
-abbrev pub is_dark_number : ℕ → Bool
-is_dark_number number = not (nat_eq number 0)
 
 -- These are the first modules of a row that is written as a number.
 abbrev pub unpacked_cells : ℕ → ℕ → List ℕ

@@ -1,12 +1,11 @@
 -- The border cells of the rows of a symbol as bits, as the code keeps them.
-use Rattle.std.specs.Prelude.{◌≡◌, ℕ, ◌+◌, ◌*◌, ◌%◌, ◌^◌, ◌<◌, Bool, true, not, ◌&&◌, ◌||◌, nat_eq, nat_lt, count_by}
+use Rattle.std.specs.Prelude.{◌≡◌, ℕ, ◌+◌, ◌*◌, ◌%◌, ◌^◌, ◌<◌, true, ◌&&◌, ◌||◌, nat_eq, nat_lt, count_by}
 use Rattle.std.specs.Prelude.{sum_by, Option, bit_and, bit_xor}
 use Rattle.std.specs.Int.{bit_not, w128}
 use Rattle.std.specs.List.{range_with_len}
 use Rattle.dm_place.specs.Border.{is_on_edge, edge_is_dark}
 use Rattle.dm_layout.specs.symbols.Symbols.{SymbolView, is_dark_bit}
-use Rattle.dm_layout.specs.symbols.Border.{is_fault}
-use Rattle.dm_layout.specs.symbols.SureFaults.{is_doubtful}
+use Rattle.dm_layout.specs.symbols.SureFaults.{is_sure_fault}
 use Rattle.dm_layout.specs.symbols.Sizes.{SizeEntry, IsSize}
 
 -- Masks of a row of a symbol: `left` has the left columns of the regions with their borders, `both` their left and
@@ -46,10 +45,6 @@ abbrev pub AreDarkCells : SizeEntry → ℕ → ℕ → Type 0
 AreDarkCells size inner x = (c : ℕ) → c < size.columns →
     is_dark_bit x c ≡ (is_on_edge size.region_rows size.region_columns inner (c % (size.region_columns + 2))
     && edge_is_dark size.region_rows inner (c % (size.region_columns + 2)))
-
--- A border fault is sure if the module isn't doubtful.
-abbrev pub is_sure_fault : SymbolView → Option SymbolView → ℕ → ℕ → Bool
-is_sure_fault modules doubtful row column = is_fault modules row column && not (is_doubtful doubtful row column)
 
 -- How many sure border faults there are in so many rows of a symbol, of which this is the first.
 abbrev pub sure_faults_in : SymbolView → Option SymbolView → ℕ → ℕ → ℕ
