@@ -245,9 +245,9 @@ fn inner(items: &[Item]) -> &[Item]
     &items[HEADER_LENGTH..items.len() - TRAILER_LENGTH]
 }
 
-/// Writes the items, without pads, to the beginning of the data codewords of a symbol, and gives how many codewords they
-/// take: in ASCII where there is room for that; else as the usual extent has it, where there is room for that; else in
-/// this way, by its plan.
+/// Writes the items, without pads, to the beginning of the data codewords of a symbol, and gives how many they take: in
+/// ASCII where there is room for that; else as the usual extent has it, where there is room for that; else in this way,
+/// by its plan.
 fn write_plainest(
     extent: Extent,
     items: &[Item],

@@ -1,4 +1,5 @@
-use Rattle.dm_symbol.proofs.Names.{◌≡◌, ◌≤◌, ◌∙◌, ◌<◌, ℕ, length, length-take, length-take-le, refl, sym, ap, subst, Some}
+use Rattle.dm_symbol.proofs.Names.{◌≡◌, ◌≤◌, ◌∙◌, ◌<◌, ℕ, length, length-take, length-take-le, refl, sym, ap, subst}
+use Rattle.dm_symbol.proofs.Names.{Some}
 use Rattle.dm_symbol.proofs.Names.{arith, rules, take, SizeEntry, codeword_count, first_words, most_grid_data}
 use Rattle.dm_symbol.proofs.Names.{row_for_words, symbol_size, symbol_modules, Square, row_facts, normal_form}
 use Rattle.dm_symbol.proofs.Names.{AreCodewordsOf, first_data}
@@ -11,7 +12,12 @@ pub returns-in-Err-clause-written : goal.returns-in-Err-clause-written
 returns-in-Err-clause-written c =
     let m = c.args.message.now in
     let long : most_grid_data < length (normal_form c.args.profile m) =
-    omega (arith, c.in-Err.ensures.too_long.0 refl, ap (λ i. length (normal_form c.args.profile i)) c.items.ensures.value) in
+    omega (
+      arith,
+      c.in-Err.ensures.too_long.0 refl,
+      ap (λ i. length (normal_form c.args.profile i))
+          c.items.ensures.value,
+    ) in
     none_is_written c.args.profile m _ refl (too_long_fits_none c.args.profile m long)
 
 pub zeros-words-requires : goal.zeros-words-requires

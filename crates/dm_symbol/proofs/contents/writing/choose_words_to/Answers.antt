@@ -1,4 +1,5 @@
-use Rattle.dm_symbol.proofs.Names.{AreChosen, Err, IfOk, sym, subst, take, OnErr, TooLong, ContentView, Form, IsWrittenAs}
+use Rattle.dm_symbol.proofs.Names.{AreChosen, Err, IfOk, sym, subst, take, OnErr, TooLong, ContentView, Form}
+use Rattle.dm_symbol.proofs.Names.{IsWrittenAs}
 use Rattle.dm_symbol.proofs.ChosenWords.{smallest_chosen, smallest_none}
 use Rattle.dm_symbol.proofs.contents.writing.choose_words_to.Goals as goal
 

@@ -1,4 +1,5 @@
-use Rattle.dm_symbol.proofs.Names.{ℕ, arith, length-take, rules, subst, sym, take, ◌∙◌, ContentView, size_facts, AreChosen}
+use Rattle.dm_symbol.proofs.Names.{ℕ, arith, length-take, rules, subst, sym, take, ◌∙◌, ContentView, size_facts}
+use Rattle.dm_symbol.proofs.Names.{AreChosen}
 use Rattle.dm_symbol.proofs.PlainSymbols.{form_written_is_plain}
 use Rattle.dm_symbol.proofs.contents.writing.write_content_to.Goals as goal
 
