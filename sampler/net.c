@@ -1,12 +1,13 @@
 #include "net.h"
 
 #include <math.h>
+#include <stdlib.h>
 #include <string.h>
 
 #include "field.h"
 
 enum { FIRST_REACH = 3, AROUND = 2, MOST_WEAK = 3, SETTLING = 3, TRIES = 2, POINTS = 4, QUARTERS = 4 };
-enum { WORK_OF_A_KNOT = 3000 };
+enum { WORK_OF_A_KNOT = 1800 };
 /* An edge is looked for up to REACH ticks beside its place, by the difference HALF ticks before and behind it. */
 enum { REACH = 5, HALF = 3, SAMPLES = 2 * (REACH + HALF) + 1 };
 static const double TICK = 0.1, BESIDE = 0.2; /* modules */
@@ -58,23 +59,36 @@ struct edge {
     double offset, contrast; /* modules; brightness */
 };
 
+/* The levels along a line, at each step the sum of two places beside it. */
+static void find_levels(const struct plane *grey, struct point from, struct point step, struct point beside,
+                        int levels[SAMPLES]) {
+    struct point to = sum(from, scale_by(step, SAMPLES)), one = sum(from, beside), other = difference(from, beside);
+    bool is_inside = is_between_pixels(grey, one) && is_between_pixels(grey, other) &&
+                     is_between_pixels(grey, sum(to, beside)) && is_between_pixels(grey, difference(to, beside));
+    for (int k = 0; k < SAMPLES && !is_inside; k++, one = sum(one, step), other = sum(other, step))
+        levels[k] = in_fractions(brightness(grey, one) + brightness(grey, other));
+    if (!is_inside)
+        return;
+    int x = in_fractions(one.x - 0.5), y = in_fractions(one.y - 0.5), other_x = in_fractions(other.x - 0.5),
+        other_y = in_fractions(other.y - 0.5), right = in_fractions(step.x), down = in_fractions(step.y);
+    for (int k = 0; k < SAMPLES; k++, x += right, y += down, other_x += right, other_y += down)
+        levels[k] = level_between(grey, x, y) + level_between(grey, other_x, other_y);
+}
+
 /* The edge near a place, across one way and along the other. */
 static struct edge edge_near(const struct plane *grey, struct point at, struct point across, struct point along) {
-    double levels[SAMPLES], rises[2 * REACH + 1];
-    struct point beside = scale_by(along, BESIDE);
-    int best = 0;
-    for (int k = 0; k < SAMPLES; k++) {
-        struct point here = sum(at, scale_by(across, TICK * (k - REACH - HALF)));
-        levels[k] = (brightness(grey, sum(here, beside)) + brightness(grey, difference(here, beside))) / 2;
-    }
+    int levels[SAMPLES], rises[2 * REACH + 1], best = 0;
+    struct point from = sum(at, scale_by(across, -TICK * (REACH + HALF)));
+    find_levels(grey, from, scale_by(across, TICK), scale_by(along, BESIDE), levels);
     for (int k = 0; k <= 2 * REACH; k++) {
-        rises[k] = fabs(levels[k + 2 * HALF] - levels[k]);
+        rises[k] = abs(levels[k + 2 * HALF] - levels[k]);
         best = rises[k] > rises[best] ? k : best;
     }
     if (best == 0 || best == 2 * REACH)
         return (struct edge){0, 0};
-    double left = rises[best - 1], right = rises[best + 1], curve = left + right - 2 * rises[best];
-    return (struct edge){TICK * (best - REACH + (curve < 0 ? 0.5 * (left - right) / curve : 0)), rises[best]};
+    double left = rises[best - 1], right = rises[best + 1], curve = left + right - 2.0 * rises[best];
+    return (struct edge){TICK * (best - REACH + (curve < 0 ? 0.5 * (left - right) / curve : 0)),
+                         rises[best] / (2.0 * ONE_LEVEL)};
 }
 
 enum { EDGES = 4 };

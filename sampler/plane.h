@@ -94,6 +94,23 @@ static inline bool is_between_pixels(const struct plane *plane, struct point at)
     return at.x >= 0.5 && at.y >= 0.5 && at.x < plane->width - 0.5 && at.y < plane->height - 0.5;
 }
 
+/* Pixels, and levels of brightness, in whole numbers: so many are one. */
+enum { HALF_OF_BITS = 8, ONE_LEVEL = 1 << 2 * HALF_OF_BITS };
+
+static inline int in_fractions(double at) {
+    return (int)(at * ONE_LEVEL);
+}
+
+/* The brightness between the centres of pixels, of which this one lies at the upper left. */
+static inline int level_between(const struct plane *plane, int x, int y) {
+    enum { MOST = (1 << HALF_OF_BITS) - 1 };
+    const uint8_t *here = pixel_of(plane, x >> 2 * HALF_OF_BITS, y >> 2 * HALF_OF_BITS), *below = here + plane->stride;
+    int right = x >> HALF_OF_BITS & MOST, down = y >> HALF_OF_BITS & MOST;
+    int upper = (here[0] << HALF_OF_BITS) + right * (here[1] - here[0]),
+        lower = (below[0] << HALF_OF_BITS) + right * (below[1] - below[0]);
+    return (upper << HALF_OF_BITS) + down * (lower - upper);
+}
+
 /* The brightness at a point, between the centres of pixels by their distances; outside, that of the nearest pixel. */
 static inline double brightness(const struct plane *plane, struct point at) {
     double least = -plane->frame, x = at.x - 0.5, y = at.y - 0.5, most_x = plane->width - 1 - least,

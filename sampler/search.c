@@ -8,7 +8,7 @@ enum { CALM_LEVELS = 3, LATTICE_LEVELS = 4, LEAST_LEVEL = 24 };
 enum { LEAST_CONTRAST = 24, LEAST_OF_REMADE = 6 }; /* levels */
 static const struct surroundings WIDE = {8, 2, LEAST_CONTRAST}, CLOSE = {8, 1, LEAST_CONTRAST},
                                  OF_REMADE = {8, 1, LEAST_OF_REMADE};
-enum { FOR_NETS = 20 }; /* percent of the usual work */
+enum { FOR_NETS = 25 }; /* percent of the usual work */
 enum { STEEPEST_OF_FAINT = 8 }; /* levels: of a window with modules */
 static const double LEAST_LINE = 10; /* pixels of a level */
 

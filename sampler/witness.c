@@ -45,22 +45,7 @@ static bool is_inside(const struct plane *plane, const struct line_across *line)
            is_between_pixels(plane, difference(to, line->beside));
 }
 
-/* Pixels, and levels of brightness, in whole numbers: so many bits of them are behind the point. */
-enum { FRACTION = 16, HALF_OF_IT = FRACTION / 2, PLACES = 3 };
-
-static int whole_of(double at) {
-    return (int)(at * (1 << FRACTION));
-}
-
-/* The brightness between the centres of pixels, of which this one lies at the upper left. */
-static inline int level_between(const struct plane *plane, int x, int y) {
-    enum { MOST = (1 << HALF_OF_IT) - 1 };
-    const uint8_t *here = pixel_of(plane, x >> FRACTION, y >> FRACTION), *below = here + plane->stride;
-    int right = x >> HALF_OF_IT & MOST, down = y >> HALF_OF_IT & MOST;
-    int upper = (here[0] << HALF_OF_IT) + right * (here[1] - here[0]),
-        lower = (below[0] << HALF_OF_IT) + right * (below[1] - below[0]);
-    return (upper << HALF_OF_IT) + down * (lower - upper);
-}
+enum { PLACES = 3 };
 
 /* The brightness across an edge, at each tick the sum of PLACES along it. */
 static void profile_of(const struct plane *plane, const struct warp *warp, const struct witness *witness,
@@ -68,15 +53,15 @@ static void profile_of(const struct plane *plane, const struct warp *warp, const
     struct line_across line = line_across(warp, witness);
     struct point at = line.from, beside = line.beside;
     if (is_inside(plane, &line)) {
-        int x = whole_of(at.x - 0.5), y = whole_of(at.y - 0.5), right = whole_of(line.step.x),
-            down = whole_of(line.step.y), across = whole_of(beside.x), along = whole_of(beside.y);
+        int x = in_fractions(at.x - 0.5), y = in_fractions(at.y - 0.5), right = in_fractions(line.step.x),
+            down = in_fractions(line.step.y), across = in_fractions(beside.x), along = in_fractions(beside.y);
         for (int k = 0; k < SAMPLES; k++, x += right, y += down)
             profile[k] = level_between(plane, x, y) + level_between(plane, x + across, y + along) +
                          level_between(plane, x - across, y - along);
         return;
     }
     for (int k = 0; k < SAMPLES; k++, at = sum(at, line.step))
-        profile[k] = whole_of(brightness(plane, at) + brightness(plane, sum(at, beside)) +
+        profile[k] = in_fractions(brightness(plane, at) + brightness(plane, sum(at, beside)) +
                               brightness(plane, difference(at, beside)));
 }
 
@@ -104,7 +89,7 @@ static double offset_of(const int profile[SAMPLES], int darkens, double *offset)
         bend = curve < 0 ? 0.5 * (left - right) / curve : 0;
     }
     *offset = TICK * (best - REACH + bend);
-    return best == 0 || best == 2 * REACH ? 0 : rises[best] / ((double)PLACES * WINDOW * (1 << FRACTION));
+    return best == 0 || best == 2 * REACH ? 0 : rises[best] / ((double)PLACES * WINDOW * ONE_LEVEL);
 }
 
 /* The equations of least squares for the eight parameters of a small projective change, in coordinates from -0.5 to

@@ -25,6 +25,17 @@ def turned_by(angle, right, down, side):
             math.cos(angle) * down - math.sin(angle) * right + side / 2)
 
 
+def waved(grid, scale, right, down, at):
+    """A symbol whose modules lie beside their places by so much at most, in waves that begin somewhere."""
+    side = len(grid)
+
+    def level(x, y):
+        column = math.floor(x / scale - 4 + right * math.sin(2 * math.pi * (y / scale / 16 + at / 5)))
+        row = math.floor(y / scale - 4 + down * math.sin(2 * math.pi * (x / scale / 17 + at / 7)))
+        return 30 if 0 <= row < side and 0 <= column < side and grid[row][column] else 220
+    return drawn((side + 8) * scale, (side + 8) * scale, level)
+
+
 def moved_along(rows, path):
     """The rows of a picture as a camera sees them that goes along a path, of steps right and down."""
     high, wide = len(rows), len(rows[0])
@@ -128,18 +139,18 @@ class Hard:
         """On crumpled paper, and as a camera shows them that shakes while it takes row by row: modules lie beside their
         places, in waves; the picture as it is and turned, dark on light and light on dark."""
         for at, (side, count, _) in enumerate(sizes()[4:10:2]):
-            grid, message, scale = grid_of(message_of(count)), message_of(count), 6
-            wide = (side + 8) * scale
             for name, right, down in (("crumpled", 0.4, 0.3), ("row by row", 0.45, 0)):
-                def level(x, y):
-                    column = math.floor(x / scale - 4 + right * math.sin(2 * math.pi * (y / scale / 16 + at / 5)))
-                    row = math.floor(y / scale - 4 + down * math.sin(2 * math.pi * (x / scale / 17 + at / 7)))
-                    return 30 if 0 <= row < side and 0 <= column < side and grid[row][column] else 220
-                rows = drawn(wide, wide, level)
+                rows = waved(grid_of(message_of(count)), 6, right, down, at)
                 for turns in range(4):
-                    self.says(f"side {side}, {name}, {turns} turns", rows, message)
-                    self.lies_upright(f"side {side}, {name}, {turns} turns", rows, turns, 4 * scale)
+                    self.says(f"side {side}, {name}, {turns} turns", rows, message_of(count))
+                    self.lies_upright(f"side {side}, {name}, {turns} turns", rows, turns, 4 * 6)
                     rows = [[250 - level for level in row] for row in turned(rows)]
+
+    def test_crumpled_large(self):
+        """The work that nets may do is enough for large symbols."""
+        for at in (16, 18, 20):
+            side, count, _ = sizes()[at]
+            self.says(f"side {side}", waved(grid_of(message_of(count)), 6, 0.4, 0.3, at), message_of(count))
 
     def lies_upright(self, name, rows, turns, quiet):
         """That the corners of a symbol lie about where they do in a picture that was turned so often."""
