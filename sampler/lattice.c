@@ -6,7 +6,7 @@ enum { FIRST_REACH = 4, STEP = 2, SIDES_OF_A_PART = 4 };
 static const double LEAST_CLEAR = 0.12; /* of the places between modules, of which about half have an edge */
 static const double LEAST_NEAR = 0.5;   /* of the clear edges */
 /* Of those of its first modules: of the lattice that two waves give, which isn't fitted to edges yet, and then. */
-static const double LEAST_UNFITTED = 0.5, LEAST_FIRST = 0.6;
+static const double LEAST_UNFITTED = 0.35, LEAST_FIRST = 0.6;
 static const double LEAST_SHARE = 0.35; /* of the mean contrast, for an edge to be clear */
 static const double STIFF = 0.1, UNIT = 32;
 

@@ -18,12 +18,10 @@ def among_text(message, pixels, depth):
     """A symbol that touches others, so many levels darker than its ground, beside what looks like text and is clear."""
     chance = random.Random(pixels)
     part = pixels_of(crowded(grid_of(message), chance), pixels, 3, LIGHT - depth, LIGHT)
-    rows = [[LIGHT] * (len(part[0]) + 700) for _ in range(max(len(part), 500))]
+    text = [[line % 7 < 5 and column % 6 and chance.random() < 0.5 for column in range(220)] for line in range(166)]
+    rows = [[LIGHT] * (len(part[0]) + 700) for _ in range(500)]
     draw(rows, part, 0, 0)
-    for line in range(24):
-        glyphs = [[chance.choice((DARK, LIGHT)) if column % 6 else LIGHT for column in range(220)] for _ in range(5)]
-        text = [[level for level in row for _ in range(3)] for row in glyphs for _ in range(3)]
-        draw(rows, text, 8 + 20 * line, len(part[0]) + 20)
+    draw(rows, pixels_of(text, 3, 0, DARK, LIGHT), 0, len(part[0]) + 20)
     return rows
 
 
