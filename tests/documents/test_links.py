@@ -111,8 +111,7 @@ def checks_of_names():
     words = set().union(*(re.findall(r"\w+", text(path)) for path in found))
     pages = [places.path("docs", f"{name}.md") for name in ("DECISIONS", "MAP", "LIBRARY", "NOTATION", "GATE")]
     for page in [*pages, *glob.glob(places.path("crates", "*", "README.md"))]:
-        plain = re.sub(r"```.*?```", "", text(page), flags=re.S)
-        for name in sorted(set(QUOTED.findall(plain))):
+        for name in sorted(set(QUOTED.findall(re.sub(r"```.*?```", "", text(page), flags=re.S)))):
             if re.fullmatch(r"\w+(?:::\w+)+|[a-z]\w*_\w+|[A-Z][a-z]\w+", name) and not name.startswith("rattle_"):
                 is_there = is_file(name) or all(part in words for part in name.split("::"))
                 yield f"{os.path.relpath(page, places.TOP)}, name {name}", is_there

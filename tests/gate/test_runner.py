@@ -189,8 +189,7 @@ class Runner(Case):
         self.subject("second", MEETING.format(own="second", other="first"))
         status, said = self.ran("-j", "2", "second", "first", "sample.test_sample.Cases.test_without_rows")
         self.row("the last line", (status, said[-1]), (1, "4 passed, 1 failed, 0 skipped"))
-        told = [re.sub(" passed.*", "", line) for line in said[:-2]]
-        self.row("in order", told, [
+        self.row("in order", [re.sub(" passed.*", "", line) for line in said[:-2]], [
             "FAILED tests.second.test_second.Meeting.test_both_have_begun: a row that is wrong: 'second', and not "
             "'first'", "second.test_second.Meeting: 1", "first.test_first.Meeting: 2", "sample.test_sample.Cases: 1"])
 

@@ -8,6 +8,7 @@ import ctypes
 import importlib.util
 import json
 import os
+import pathlib
 import shutil
 import subprocess
 import sys
@@ -176,8 +177,7 @@ def letters():
             got = said_by(lambda: ecc200.read(ecc200.write(message, **given)))
             wanted = (b"AB", marks, head) if isinstance(got, ecc200.Reading) else marks
             yield name, (got.data, got.marks, got.head) if isinstance(got, ecc200.Reading) else got, wanted
-    given = iter([(1, 26)])
-    yield "marks of an iterator, once", ecc200.read(ecc200.write(b"AB", marks=given)).marks, ((1, 26),)
+    yield "marks of an iterator, once", ecc200.read(ecc200.write(b"AB", marks=iter([(1, 26)]))).marks, ((1, 26),)
     got = ecc200.read(ecc200.write(b"A\x1dB", gs1=True, marks=[(0, 3), (1, 4), (4, 5)]))
     yield "marks of a GS1 message", (got.items, got.marks), ((FNC1, 65, FNC1, 66), ((0, 3), (1, 4), (4, 5)))
     for given, wanted in (({}, "]d1"), ({"gs1": True}, "]d2"), ({"marks": [(0, 3)]}, "]d4"),
@@ -429,34 +429,29 @@ def pictures():
     yield "no grid without the sampler", ecc200.decode(LIGHT), []
 
 
+def told_in(folder, program, **environment):
+    """What a program says, or the last line of its errors, that finds the module in a folder, as users copy it."""
+    shutil.copy(MODULE, os.path.join(folder, "ecc200.py"))
+    clean = {name: value for name, value in os.environ.items() if name != "ECC200_LIBRARY"}
+    done = subprocess.run([sys.executable, "-B", "-c", program], env={**clean, "PYTHONPATH": folder, **environment},
+                          capture_output=True, text=True, cwd="/", check=False)
+    return done.stdout.strip() or done.stderr.strip().split("\n")[-1]
+
+
 def loading():
-    """Which library is loaded: the one that is named, else the one beside the module, and none of another interface.
-    The module is copied to where a program finds it, as users copy it."""
-    with tempfile.TemporaryDirectory() as folder:
-        shutil.copy(MODULE, os.path.join(folder, "ecc200.py"))
-        yield from loading_from(folder)
-
-
-def loading_from(folder):
-    """The same of the module in a folder."""
+    """Which library is loaded: the one that is named, else the one beside the module, and none of another interface."""
     own, other = os.environ["ECC200_LIBRARY"], os.environ["OTHER_LIBRARY"]
-
-    def loads(**environment):
-        words = [sys.executable, "-B", "-c",
-                 "import ecc200; print(len(ecc200.write(b'123456')), ecc200._library._name)"]
-        clean = {name: value for name, value in os.environ.items() if name != "ECC200_LIBRARY"}
-        found = {**clean, "PYTHONPATH": folder, **environment}
-        done = subprocess.run(words, env=found, capture_output=True, text=True, cwd="/", check=False)
-        return done.stdout.strip() or done.stderr.strip().split("\n")[-1]
-
     wrong = f"has version 2 of the interface, but this module needs version {INTERFACE.abi}"
-    yield "the library that is named", loads(ECC200_LIBRARY=own), f"10 {own}"
-    yield "another interface", loads(ECC200_LIBRARY=other), f"ImportError: {other} {wrong}"
-    raised = loads(ECC200_LIBRARY="/nonexistent/libecc200.so").split(":")[0]
-    yield "no library", raised in ("ImportError", "OSError"), True
-    os.symlink(other, os.path.join(folder, "libecc200.so"))
-    yield "the library beside the module", wrong in loads(), True
-    yield "the library that is named, and another beside the module", loads(ECC200_LIBRARY=own), f"10 {own}"
+    asked = "import ecc200; print(len(ecc200.write(b'123456')), ecc200._library._name)"
+    with tempfile.TemporaryDirectory() as folder:
+        loads = lambda **environment: told_in(folder, asked, **environment)
+        yield "the library that is named", loads(ECC200_LIBRARY=own), f"10 {own}"
+        yield "another interface", loads(ECC200_LIBRARY=other), f"ImportError: {other} {wrong}"
+        raised = loads(ECC200_LIBRARY="/nonexistent/libecc200.so").split(":")[0]
+        yield "no library", raised in ("ImportError", "OSError"), True
+        os.symlink(other, os.path.join(folder, "libecc200.so"))
+        yield "the library beside the module", wrong in loads(), True
+        yield "the library that is named, and another beside the module", loads(ECC200_LIBRARY=own), f"10 {own}"
 
 
 # What is looked for where the system is called nt, and what is said if nothing is found.
@@ -481,17 +476,12 @@ except ImportError as why:
 def loading_under_windows():
     """Under Windows the library beside the module is looked for, and then that which the system finds."""
     with tempfile.TemporaryDirectory() as folder:
-        shutil.copy(MODULE, os.path.join(folder, "ecc200.py"))
         beside = os.path.join(folder, "ecc200.dll")
-        found = {name: value for name, value in os.environ.items() if name != "ECC200_LIBRARY"}
         for is_there, said in ((False, "the library ecc200 isn't installed, or set ECC200_LIBRARY to its path"),
                                (True, f"{beside} is there, but can't be loaded: Could not find module '{beside}'")):
             if is_there:
-                with open(beside, "wb"):
-                    pass
-            done = subprocess.run([sys.executable, "-B", "-c", UNDER_WINDOWS], env={**found, "PYTHONPATH": folder},
-                                  capture_output=True, text=True, cwd="/", check=False)
-            yield f"a library, {is_there}", done.stdout.strip(), f"{[beside, 'ecc200.dll']} {said}"
+                pathlib.Path(beside).touch()
+            yield f"a library, {is_there}", told_in(folder, UNDER_WINDOWS), f"{[beside, 'ecc200.dll']} {said}"
 
 
 def tried():

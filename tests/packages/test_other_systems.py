@@ -35,8 +35,7 @@ class OtherSystems(Packed):
 
     def test_wheels(self):
         """Each carries the libraries that are built for it, and its name says on which systems they run."""
-        what = "wheels"
-        for target, folder in self.targets(what) if self.has("readelf", "what wheels need of glibc") else ():
+        for target, folder in self.targets("wheels") if self.has("readelf", "what wheels need of glibc") else ():
             self.make(target, "sampler")
             self.make(target, "wheel")
             found = glob.glob(os.path.join(TOP, "library", "python", "out", target.triple, "*.whl"))

@@ -98,9 +98,8 @@ def drawings():
     small, large = written("123456"), written("0" * 1632)
     dots = "".join(f'<use href="#m" x="{c}" y="{r}"/>' for r, row in enumerate(large.split("\n")) for c,
                    module in enumerate(row) if module == "1")
-    used = f'<defs><rect id="m" width="1" height="1"/></defs>{dots}'
     paths = {"rectangles": (svg_of(small), small), "the largest": (svg_of(large), large),
-             "used modules": (svg_of(large, used), large),
+             "used modules": (svg_of(large, f'<defs><rect id="m" width="1" height="1"/></defs>{dots}'), large),
              "huge": (svg_of(small, size='width="90000" height="90000"'), small),
              "tiny": (svg_of(small, size='width="14" height="14"'), small),
              "without a size": (svg_of(small, size=" "), small),
@@ -147,8 +146,7 @@ def drawings():
     declared, body = b'<?xml version="1.0" encoding="Shift_JIS"?>', svg_of(small, FIRST_OF_A_NAME)
     hidden = declared + body.replace(b'<g id="d4"/>', b'<g id="\x84\x41"/>').replace(b"d4", b"\x83\x41")
     expect("names in another encoding", opened("drawing.svg", hidden), f"drawing.svg: {many}")
-    entities = b'<!DOCTYPE svg [<!ENTITY a "a">]>' + svg_of(small)
-    expect("entities", opened("drawing.svg", entities),
+    expect("entities", opened("drawing.svg", b'<!DOCTYPE svg [<!ENTITY a "a">]>' + svg_of(small)),
            "drawing.svg: The drawing declares entities, which aren’t read here.")
     expect("many bytes", opened("drawing.svg", svg_of(small) + b" " * 4000000),
            "drawing.svg: The drawing has more than 4 million bytes.")
@@ -243,9 +241,8 @@ def dropped_on_the_sheet():
         wait_for(lambda: run("return gates.length"))
         put(field, "meanwhile")
         run("gates.pop()()")
-        said = "slow.txt was given up, since something else was entered meanwhile."
         soon(f"a file that is read while the {field} is typed", lambda: (text_of("toast"), value_of(field)),
-             (said, "meanwhile"))
+             ("slow.txt was given up, since something else was entered meanwhile.", "meanwhile"))
         run("document.getElementById('toast').textContent = ''")
     run("usual()")
 
@@ -259,8 +256,7 @@ def low_contrast():
     push("tab-read")
     rows = written("faint").split("\n")
     for light, dark in ((200, 180), (130, 124), (255, 251)):
-        said = opened("faint.png", png(rows, 6, 2, light, dark))
-        expect(f"greys {dark} and {light}", (said, shown()["says"]),
+        expect(f"greys {dark} and {light}", (opened("faint.png", png(rows, 6, 2, light, dark)), shown()["says"]),
                ("faint.png: 12 × 12. Read as it stands.", "faint"))
     expect("greys 200 and 201", opened("faint.png", png(rows, 6, 2, 201, 200)),
            "faint.png: All of the picture is about equally bright: its greys differ by 1 of 255.")

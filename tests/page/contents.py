@@ -159,12 +159,10 @@ def made_in_parts():
         expect("heads", heads, [{"part": k + 1, "parts": many, "file": file} for k in range(many)])
         expect("numbers of the file", all(1 <= number <= 254 for number in file), True)
         charset = lambda it: charset_of(it["marks"][0]["number"]) if it["marks"] else "ascii"
-        together = "".join(bytes(it["items"]).decode(charset(it)) for it in contents)
-        expect(f"{text[:8]} in {many}", together, text)
+        expect(f"{text[:8]} in {many}", "".join(bytes(it["items"]).decode(charset(it)) for it in contents), text)
         lengths = [len(it["items"]) for it in contents]
         expect("about equal parts", max(lengths) - min(lengths) <= 3, True)
-        answers = judged([asked_to_read(it) for it in grids])
-        expect("as the library reads them", [it["head"] for it in answers], heads)
+        expect("as the library reads them", [it["head"] for it in judged([asked_to_read(it) for it in grids])], heads)
     type_in(MESSAGE, "text")
     choose("parts", "3")
     push("part-on")
@@ -202,8 +200,7 @@ def spelled_heads():
                               ("\\P\\E{26}AB", "programming", "Read, as reader programming")):
         type_in(line, "message")
         marks = [{"place": 0, "number": 26}] if "E{" in line else []
-        wanted = state, {"items": [65, 66], "marks": marks, "head": said}
-        expect(line, (shown()["state"], run(READ)), wanted)
+        expect(line, (shown()["state"], run(READ)), (state, {"items": [65, 66], "marks": marks, "head": said}))
     choose("parts", "1")
     for line in ("\\A{6/5:001001}A", "\\A{1/17:001001}A", "\\A{1/2:000001}A", "\\A{1/2:001255}A"):
         type_in(line, "message")
@@ -252,8 +249,7 @@ def labels_in_parts():
         choose("parts", parts)
         put("messages", "")
         give("lines", "labels.json")
-        chosen_now = lambda: value_of("parts")
-        soon(f"opened again, after {parts}", chosen_now, "2")
+        soon(f"opened again, after {parts}", lambda: value_of("parts"), "2")
         settle()
 
 
@@ -295,28 +291,23 @@ def read_in_parts():
 def found_in_parts(grids):
     """Parts in one picture are put together, and named in the list; what is saved of it has their heads and marks."""
     push("tab-read")
-    placed = [(text.split("\n"), (20 + 130 * k, 20)) for k, text in enumerate(grids)]
-    opened("parts.png", scene(400, 150, placed))
+    opened("parts.png", scene(400, 150, [(text.split("\n"), (20 + 130 * k, 20)) for k, text in enumerate(grids)]))
     card = run(CARD)
-    wanted = "A message in 3 symbols: all are read", MESSAGE
-    expect("parts in a picture", (card["title"], card["whole"]), wanted)
+    expect("parts in a picture", (card["title"], card["whole"]), ("A message in 3 symbols: all are read", MESSAGE))
     remarks = texts_of("#found-are small")
     expect("all in the verdict", "All parts are read." in shown()["why"], True)
     named = sorted(re.search(r"part \d of 3", it)[0] for it in remarks)
     expect("named in the list", named, [f"part {k} of 3" for k in (1, 2, 3)])
     listed = sorted(json.loads(saved("found.json", "found-json"))["symbols"], key=lambda it: it["head"])
     file = judged([asked_to_read(grids[0])])[0]["head"]["file"]
-    heads = [[k, 3, *file] for k in (1, 2, 3)]
-    expect("heads in JSON", [it["head"] for it in listed], heads)
+    expect("heads in JSON", [it["head"] for it in listed], [[k, 3, *file] for k in (1, 2, 3)])
     said = [(it["marks"], it["charset"], it["identifier"]) for it in listed]
     expect("marks in JSON", said, [([[0, 26]], "utf-8", "]d4")] * 3)
     table = table_saved()[1:]
-    named = sorted(row[2].rsplit("; ", 1)[-1] for row in table)
-    expect("parts in CSV", named, [f"part {k} of 3" for k in (1, 2, 3)])
+    expect("parts in CSV", sorted(row[2].rsplit("; ", 1)[-1] for row in table), [f"part {k} of 3" for k in (1, 2, 3)])
     push("found-copy")
     copied = [line.split("\t") for line in run("return copied.at(-1)").splitlines()]
-    listed = sorted([row[1], row[2].rsplit("; ", 1)[-1]] for row in table)
-    expect("parts in what is copied", sorted(copied), listed)
+    expect("parts in what is copied", sorted(copied), sorted([row[1], row[2].rsplit("; ", 1)[-1]] for row in table))
 
 
 def parts_by_camera():
@@ -328,8 +319,7 @@ def parts_by_camera():
     camera_on(grids)
     run("globalThis.shown = [0, 1]")
     for title in ("2 of them read", "all are read"):
-        seen = lambda: (run(CARD) or {}).get("title")
-        soon(title, seen, f"A message in 4 symbols: {title}")
+        soon(title, lambda: (run(CARD) or {}).get("title"), f"A message in 4 symbols: {title}")
         run("globalThis.pictures = [...pictures.slice(2), ...pictures.slice(0, 2)]")
     expect("the whole", run(CARD)["whole"], "once " * 4)
     expect("each is listed", len(texts_of(FOUND)), 4)
@@ -379,8 +369,7 @@ def told_of_marks():
     while usable("step-back"):
         push("step-back")
     said = text_of("step")
-    chips = texts_of("#step .chip")
-    expect("the lesson's message", chips, ["65A", "66B", "ECI 7iso-8859-5", "191\\xBF"])
+    expect("the lesson's message", texts_of("#step .chip"), ["65A", "66B", "ECI 7iso-8859-5", "191\\xBF"])
     expect("its head", "part 2 of 5" in said and "the numbers 7 and 9" in said, True)
     push("step-on")
     expect("its codewords", "An ECI is 241 and its designator" in text_of("step"), True)
@@ -419,16 +408,14 @@ def contents_compared():
     modules = "".join(map(str, modules_of(size, codewords(size, padded([230, 10, 121, 254], size.data)))))
     fill("b", "\n".join(modules[k : k + 12] for k in range(0, 144, 12)))
     settle()
-    said = [same, f"{plain}, though their symbology identifiers are ]d2 and ]d1:"]
-    expect("identifiers", head(), said)
+    expect("identifiers", head(), [same, f"{plain}, though their symbology identifiers are ]d2 and ]d1:"])
 
 
 # ---- Borders
 
 def torn(text, many):
     """A grid of which so many modules of the solid column on the left are light."""
-    rows = text.split("\n")
-    return "\n".join("0" + row[1:] if k < many else row for k, row in enumerate(rows))
+    return "\n".join("0" + row[1:] if k < many else row for k, row in enumerate(text.split("\n")))
 
 
 def any_border():
@@ -439,8 +426,7 @@ def any_border():
     usual = (2 * len(text.split("\n"))) // 8
     push("tab-read")
     for way in range(2):
-        lines = torn(text, usual + 3).split("\n")
-        put("grid", "\n".join(row[::-1] if way else row for row in lines))
+        put("grid", "\n".join(row[::-1] if way else row for row in torn(text, usual + 3).split("\n")))
         seen = shown()
         wanted = "Read", line, f"{usual + 3} wrong, {usual + 3}"
         expect("a torn border", (seen["state"], seen["says"], seen["meters"][-1]), wanted)
@@ -469,8 +455,7 @@ def any_border():
     settle()
     expect("compared", head()[0], "Yes, they say the same.")
     fold("comparison")
-    lines = torn(text, usual + 3).split("\n")
-    opened("torn.png", png(lines, 1, 2))
+    opened("torn.png", png(torn(text, usual + 3).split("\n"), 1, 2))
     expect("a picture that is a grid", (shown()["state"], shown()["says"]), ("Read", line))
 
 

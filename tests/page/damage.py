@@ -259,8 +259,7 @@ def codewords():
 
 def blocks():
     """A module of one codeword is turned over: the block that the meters name is the one that the program names."""
-    message = "".join(chr(65 + k % 26) for k in range(800))
-    write(message)
+    write("".join(chr(65 + k % 26) for k in range(800)))
     words = [0, 1, 4, 5, 6, 815, 816, 821, 1151]
     for w, (_, bits) in zip(words, pointed(words)):
         _, x, y = bits[w % 8]

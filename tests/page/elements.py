@@ -36,9 +36,8 @@ def misjoined():
         write(text)
         expect(f"{text} is said", (shown()["state"], text_of("message-hint").startswith(why)), (NOTHING, True))
         press("#message-hint button")
-        line = line_of(plain) if plain.startswith("(") else plain
         expect(f"{text} respelled", (value_of("message"), grid(), shown()["state"].split(",")[0]),
-               (plain, written(line), "Read"))
+               (plain, written(line_of(plain) if plain.startswith("(") else plain), "Read"))
     for text, line in (("(10)A\\(B)", "\\F10A(B)"), ("(10)A\\x28B)", "\\F10A(B)"), ("\\x28a)5", "(a)5"),
                        ("a(01)", "a(01)"), ("[01]09506000134352[10]A(B)", "\\F010950600013435210A(B)"),
                        ("[a]5", "[a]5")):

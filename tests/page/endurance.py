@@ -54,8 +54,7 @@ def without_growth():
     said = [entry["message"] for entry in on.page.get_log("browser")]
     expect("console", [message for message in said if "Throttling navigation" not in message], [])
     learn()
-    kept = on.page.execute_async_script(TAPS, MOST_ACTS + 200)
-    expect("how many acts can be undone", kept, MOST_ACTS)
+    expect("how many acts can be undone", on.page.execute_async_script(TAPS, MOST_ACTS + 200), MOST_ACTS)
 
 
 WATCH = """

@@ -38,13 +38,11 @@ def example():
     soon("the example", lambda: (shown()["says"], text_of("found-title")),
          ("Every answer is proved.", "2 symbols are read"))
     expect("no example any more", is_seen("example-picture"), False)
-    body = scene(120, 110, [])
-    opened("none.png", body)
+    opened("none.png", scene(120, 110, []))
     gone = "return [mitsubadoor.panes.read.modules, document.getElementById('grid').value]"
     why = (shown()["state"], shown()["says"], run(gone))
     expect("a picture that fails leaves no symbol of another", why, ("Nothing is read", "", [None, ""]))
-    said = f"{text_of('picture-hint')} {shown()['why']}"
-    expect("what to do is said once", said.count("Take it from nearer"), 1)
+    expect("what to do is said once", f"{text_of('picture-hint')} {shown()['why']}".count("Take it from nearer"), 1)
 
 
 def made():

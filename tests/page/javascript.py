@@ -134,8 +134,7 @@ def uses():
     expect("sizes", [came("sizes")[0], came("sizes")[1]["rows"], came("sizes")[1]["data"]], [48, 10, 3])
     smallest = written_in("HELLO WORLD AND ALL THAT IS THERE", "square", SMALLEST)
     expect("smallest", came("smallest")["modules"], flat(smallest))
-    sizes = [[mark.name, content_of(mark.said)] for mark in corpus.marks("sizes")]
-    expect("every size", came("every size"), sizes)
+    expect("every size", came("every size"), [[mark.name, content_of(mark.said)] for mark in corpus.marks("sizes")])
     for mark, got in zip(corpus.marks("damaged"), came("damaged"), strict=True):
         found = [] if mark.refusal else [list(mark.content[0]), mark.damage[0], *map(list, mark.damage[1:])]
         expect(mark.name, got, found or list(mark.refusal))

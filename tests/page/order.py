@@ -65,8 +65,7 @@ def taken_at_once():
     expect("a slot takes what was entered last", head()[0], "Yes, they say the same.")
     run(COLLECT)
     do("put('message', '8888'); at('copy').click()")
-    copied = lambda: "".join(run("return copied")).strip()
-    soon("what is copied is what was entered last", copied, written("8888"))
+    soon("what is copied is what was entered last", lambda: "".join(run("return copied")).strip(), written("8888"))
     run("delete navigator.clipboard.writeText")
     do("put('message', '777'); at('tab-read').click(); at('take-written').click()")
     expect("the written symbol is the one entered last", (shown()["says"], value_of("grid").strip()),

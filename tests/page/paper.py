@@ -89,8 +89,7 @@ def text_on_paper():
         write(text)
         paper_is("a4", millimetres)
         boxes, _ = printed()
-        said = text_of("paper")
-        shown = re.match(r"([A0]+)(?:… and ([\d,]+) characters? more)?", said)
+        shown = re.match(r"([A0]+)(?:… and ([\d,]+) characters? more)?", text_of("paper"))
         expect(f"{len(text)} characters and {millimetres} mm",
                (len(boxes), len(shown[1]) + int((shown[2] or "0").replace(",", "")), shown[2] is not None),
                (1, len(text), is_cut))

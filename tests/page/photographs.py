@@ -115,8 +115,7 @@ def camera():
     expect("the camera looks on", (is_seen("viewfinder"), shown()["says"]), (True, "Every answer is proved."))
     for k, message in enumerate(messages):
         run("globalThis.shown = arguments[0]", list(range(k + 1)))
-        says = lambda: (shown()["state"], shown()["says"])
-        soon(f"the camera reads {message!r}", says, ("Read", message))
+        soon(f"the camera reads {message!r}", lambda: (shown()["state"], shown()["says"]), ("Read", message))
         soon("what is listed", lambda: texts_of(FOUND), messages[: k + 1])
         outlines = "return document.querySelectorAll('#in-camera polygon').length"
         soon("what is outlined", lambda: run(outlines), k + 1)
@@ -173,8 +172,7 @@ def camera_ends():
     run("""Object.defineProperty(document, 'hidden', { configurable: true, value: true });
            document.dispatchEvent(new Event('visibilitychange'));
            delete document.hidden;""")
-    why = "The camera is off, since the page was out of sight."
-    expect("out of sight", (tracks(), said()), (["ended"], why))
+    expect("out of sight", (tracks(), said()), (["ended"], "The camera is off, since the page was out of sight."))
     run("streams.length = 0; document.getElementById('camera').click()")
     push("tab-make")
     expect("allowed before the other pane was opened, or not at all", tracks(), [])
@@ -194,8 +192,7 @@ def beside_pictures(allow):
     run("document.getElementById('camera').click()")
     allow()
     wait_for(lambda: asked() > before)
-    said = "waiting.png: 16 × 16. Read as it stands."
-    soon("a picture that waits", lambda: text_of("picture-hint"), said)
+    soon("a picture that waits", lambda: text_of("picture-hint"), "waiting.png: 16 × 16. Read as it stands.")
     run("document.getElementById('camera-off').click()")
     settle()
 

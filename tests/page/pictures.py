@@ -135,8 +135,7 @@ def printed():
         expect(f"{name}: contrast", told[0], [grade, "contrast", contrast])
         expect(f"{name}: the rest", [cells[0] for cells in told[1:]], [*"AAAA", *"––––"])
         expect(f"{name}: damage", [cells[2] for cells in told[6:8]], ["none", "none"])
-    torn = ["0" + row[1:] if 3 <= k < 6 else row for k, row in enumerate(rows)]
-    opened("torn.png", png(torn, 8, 6, speck=5))
+    opened("torn.png", png(["0" + row[1:] if 3 <= k < 6 else row for k, row in enumerate(rows)], 8, 6, speck=5))
     expect("a torn border", [cells[2] for cells in table()[6:]],
            [f"{round(300 / len(rows))} % on the left", "none", "the left border, rows 4 to 6"])
     opened("grid.png", png(rows, 8, 6))
@@ -159,8 +158,7 @@ def other_codes():
     for name, scale, around, light, dark, quarters in (("as zint draws it", 4, 4, 255, 0, 0),
                                                        ("small and grey", 2, 2, 200, 90, 1),
                                                        ("large and upside down", 17, 1, 255, 0, 2)):
-        rows = turned(code, quarters, False, False).split("\n")
-        said = opened("qr.png", png(rows, scale, around, light, dark))
+        said = opened("qr.png", png(turned(code, quarters, False, False).split("\n"), scale, around, light, dark))
         expect(f"a QR code {name}", said, f"qr.png: {told} It shows a QR code, which isn’t a Data Matrix symbol.")
     without = code.split("\n")
     for row in range(7):  # without the pattern in the first corner

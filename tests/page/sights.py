@@ -104,8 +104,7 @@ def all_symbols():
         listed = run(LISTED)
         expect(f"{name}: what is listed", [says for says, _, _ in listed], messages)
         expect("how many", (text_of("found-title"), text_of("found-hint")), ("6 symbols are read", ""))
-        chosen = [says for says, _, is_chosen in listed if is_chosen == "true"]
-        expect("one is at hand", chosen, [shown()["says"]])
+        expect("one is at hand", [says for says, _, is_chosen in listed if is_chosen == "true"], [shown()["says"]])
         far = [abs(one - other) for (_, points), (left, top), rows in zip(run(OUTLINED), places, grids) for corner,
                wanted in zip(points, corners_of(left, top, 4 * len(rows), turn)) for one, other in zip(corner, wanted)]
         expect(f"{name}: outlines", (len(far), [each for each in far if each > 2]), (48, []))
@@ -167,8 +166,7 @@ def found_in_tables():
     push("tab-read")
     messages = ["=1+1", "-5 pieces", "'@x", "plain, and more"]
     places = [(30 + 110 * k, 40) for k in range(4)]
-    body = scene(470, 130, [(written(it).split("\n"), place) for it, place in zip(messages, places)])
-    opened("formulas.png", body)
+    opened("formulas.png", scene(470, 130, [(written(it).split("\n"), place) for it, place in zip(messages, places)]))
     soon("what is listed", lambda: len(run(LISTED)), 4)
     expect("cells", [row[1] for row in table_saved()][1:], ["'=1+1", "'-5 pieces", "''@x", "plain, and more"])
     push("tab-make")
@@ -235,9 +233,8 @@ def list_opened_again():
     push("tab-read")
     give("saved", "found.csv")
     soon("a list in CSV", lambda: (task(), text_of("sheet-hint")), ("make", "The lines of found.csv."))
-    labels = ("whole", "A border that is damaged")
     soon("what it gives, without questions", lambda: (is_seen("columns"), texts_of(LABELLED)),
-         (False, [f"{k}: {says}" for k, says in enumerate(labels, 1)]))
+         (False, [f"{k}: {says}" for k, says in enumerate(("whole", "A border that is damaged"), 1)]))
 
 
 def unread():

@@ -323,8 +323,7 @@ def doubted():
     expect("each doubtful codeword takes one check codeword", (answer["corrected"], answer["erased"], answer["left"]),
            ([0], [size["limit"]], [size["check"] - size["limit"]]))
     expect("the cells say so", kinds("corrected erased"), size["limit"])
-    told_of = changed(clean, grid())
-    expect("what is told", doubts(), told_of)
+    expect("what is told", doubts(), changed(clean, grid()))
     for step in range(size["check"]):
         push("one-more", "tell")
         answer = agree_with_judge(f"{step} more, and told")
@@ -376,16 +375,12 @@ def damaged_at_random():
     """Symbols of all sizes with modules turned over and others marked, at random, as they are shown and as the library
     answers."""
     chance = random.Random(5)
-    names = list(table())
     cases = []
     push("tab-read")
     for _ in range(60):
-        name = chance.choice(names)
-        size = table()[name]
-        line = digits(chance.randrange(1, 2 * size["data"]))
-        cases.append((name, line))
-    symbols = judged([asked_to_write(line, name) for name, line in cases])
-    for (name, line), symbol in zip(cases, symbols):
+        name = chance.choice(list(table()))
+        cases.append((name, digits(chance.randrange(1, 2 * table()[name]["data"]))))
+    for (name, line), symbol in zip(cases, judged([asked_to_write(line, name) for name, line in cases])):
         size, modules = table()[name], list(symbol["text"])
         doubtful = ["0"] * len(modules)
         turns = chance.randrange(0, 2 * size["limit"] * size["blocks"] // 3 + 2)

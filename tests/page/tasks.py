@@ -28,8 +28,7 @@ def tasks_are_linked():
         expect(f"#{name} from elsewhere", (seen_panes(), verdict()), ([name], says))
         linked()
         go("#make")
-        height = find("message").rect["height"]
-        expect(f"the message after #{name} has the height of a line", 30 < height < 60, True)
+        expect(f"the message after #{name} has the height of a line", 30 < find("message").rect["height"] < 60, True)
         put("message", f"at {name}")
         go(f"#{name}")
         expect(f"#{name} within the page", (seen_panes(), value_of("message")), ([name], f"at {name}"))
@@ -76,8 +75,7 @@ def text_and_gs1():
     linked()
     expect("text in the link", (fields()["message"], fields()["as"]), (TEXT, "typed"))
     reload()
-    wanted = written(line), True
-    expect("text after a reload", (grid(), find("kind-typed").is_selected()), wanted)
+    expect("text after a reload", (grid(), find("kind-typed").is_selected()), (written(line), True))
     push("kind-text")
     linked()
     expect("text alone in the link", (fields()["message"], fields()["as"]), (TEXT, "text"))
@@ -86,8 +84,7 @@ def text_and_gs1():
     for text in ("\ufeff\u00e9", "\u00e9\n", "e\u0301", "\u00a0", "\u00c3\u00a0"):
         put("message", text)
         line = line_of_text(text)
-        wanted = line, written_in(line, "square")
-        expect(f"{text!r} isn't all to be seen", (shown()["says"], grid()), wanted)
+        expect(f"{text!r} isn't all to be seen", (shown()["says"], grid()), (line, written_in(line, "square")))
     for text, told in (("\u00e9\\(01)", "ISO-8859-1"), ("\u20ac\\(01)", "ISO-8859-15, as ECI 17 says")):
         put("message", text)
         said = f"It is text in {told}." in shown()["why"]
@@ -159,8 +156,7 @@ def typed():
     unfold("sheet")
     put("messages", "message,text\nGr\u00f6\u00dfe 5,Gr\u00f6\u00dfe\n\u00b5m,")
     choose("lines-as", "csv")
-    told = lambda: texts_of("#labels-are code")
-    soon("text in CSV", told, ["Gr\u00f6\u00dfe 5", "\u00b5m"])
+    soon("text in CSV", lambda: texts_of("#labels-are code"), ["Gr\u00f6\u00dfe 5", "\u00b5m"])
 
 
 def damaged_only_where_one_learns():
@@ -173,8 +169,7 @@ def damaged_only_where_one_learns():
         acting().move_to_element_with_offset(find("symbol"), *offset(33, 10)).click().perform()
         run("document.querySelector('.skip').click()")
         send(Keys.SPACE)
-        symbol = find("symbol")
-        expect(f"{name}: a click and a key", (grid(), usable("undo"), symbol.get_attribute("role")),
+        expect(f"{name}: a click and a key", (grid(), usable("undo"), find("symbol").get_attribute("role")),
                (clean, False, "img"))
         expect(f"{name}: no buttons for damage", is_seen("to-limit"), False)
     learn()

@@ -90,8 +90,7 @@ class Sampler(Case):
                       "milliseconds": 250, "mostUnread": 4} for k in range(60)]
         answers = found(questions)
         self.row("what is read", [answer.get("symbols") for answer in answers], [[]] * len(questions))
-        longest = max(answer["time"] for answer in answers)
-        self.assertLess(longest, 250 + LATE, "milliseconds")
+        self.assertLess(max(answer["time"] for answer in answers), 250 + LATE, "milliseconds")
 
     def test_memory_of_large_pictures(self):
         """A picture of 16 million pixels, as the page gives at most, and one that no memory holds."""

@@ -164,8 +164,7 @@ def compared():
     take("b")
     expect("two profiles", head(),
            ["Yes, they say the same.", "Their modules differ, but both have this one normal grid:"])
-    message = "".join(f"\\x{128 + k % 128:02X}" for k in range(800))
-    write(message, 1)
+    write("".join(f"\\x{128 + k % 128:02X}" for k in range(800)), 1)
     take("a")
     push("to-limit")
     take("b")

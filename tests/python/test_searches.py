@@ -219,8 +219,7 @@ class Searches(PackageCase):
         middle = 8 * (22 + 11)
         self.holds("the reason and the place", errors.count("\n") == 1 and f"symbol 3, at {middle}, {8 * 11}: block 1"
                    in errors, errors)
-        got = self.ecc("read --all --unread --json", *words)
-        told = [json.loads(line) for line in got[1].splitlines()]
+        told = [json.loads(line) for line in self.ecc("read --all --unread --json", *words)[1].splitlines()]
         self.row("in JSON", ["refused" in line for line in told], [False, False, True])
         self.row("its reason there", (told[2]["code"], told[2]["block"], told[2]["complete"]), ("BLOCK", 1, True))
         for call in (ecc200.find, ecc200.decode):

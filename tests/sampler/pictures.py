@@ -50,8 +50,7 @@ def pixels_of(grid, scale=4, quiet=3, dark=20, light=230):
 
 
 def pgm(rows):
-    head = f"P5\n# made for a test\n{len(rows[0])} {len(rows)}\n255\n"
-    return head.encode() + b"".join(map(bytes, rows))
+    return f"P5\n# made for a test\n{len(rows[0])} {len(rows)}\n255\n".encode() + b"".join(map(bytes, rows))
 
 
 def turned(rows):

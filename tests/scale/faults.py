@@ -79,8 +79,7 @@ def texts():
 def verdict(done, answers, wanted, left, sure=True, lies=False):
     """What is wrong with a run that a fault has hit, or None. A sure fault loses answers; a lying one has others."""
     status, said = done
-    complete = (status, answers) == wanted
-    if status < 3 and (sure or not complete):
+    if status < 3 and (sure or (status, answers) != wanted):
         return f"status {status} and {len(answers)} bytes of {len(wanted[1])}"
     if status >= 3 and b"answers are missing" not in said:
         return f"status {status}, and no line that says why: {said[-300:]!r}"
