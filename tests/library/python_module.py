@@ -248,14 +248,10 @@ def limits():
 
 # The same grid in other forms, and what isn't a grid with how it's refused.
 FORMS = {
-    "lists": [list(row) for row in WORKED],
-    "tuples": tuple(tuple(row) for row in WORKED),
-    "bytearrays": [bytearray(row) for row in WORKED],
-    "truth": [[bool(module) for module in row] for row in WORKED],
+    "lists": [list(row) for row in WORKED], "tuples": tuple(tuple(row) for row in WORKED),
+    "bytearrays": [bytearray(row) for row in WORKED], "truth": [[bool(module) for module in row] for row in WORKED],
     "255": [bytes(255 * module for module in row) for row in WORKED],
-    "2": [[2 * module for module in row] for row in WORKED],
-    "256": [[256 * module for module in row] for row in WORKED],
-    "-1": [[-module for module in row] for row in WORKED],
+    **{f"{dark}": [[dark * module for module in row] for row in WORKED] for dark in (2, 256, -1)},
     "1 and 255": [[module * (1 + 254 * (i % 2)) for i, module in enumerate(row)] for row in WORKED],
 }
 NO_GRIDS = [
@@ -267,8 +263,7 @@ NO_GRIDS = [
         ("rows of text, some too short", ["1" * 10, "1" * 9] * 5), ("a line too short", "11\n1\n"),
         ("99 bytes", bytes(99)), ("three bytes", bytes(3)), ("flat bytes of a rectangle", bytes(12 * 26)))),
     ("a row too many", [*WORKED, WORKED[-1]], refused("SIZE", 11, 10)),
-    ("a row too few", WORKED[1:], refused("SIZE", 9, 10)),
-    ("no rows", [], refused("SIZE", 0, 0)),
+    ("a row too few", WORKED[1:], refused("SIZE", 9, 10)), ("no rows", [], refused("SIZE", 0, 0)),
     *((f"nothing as {type(given).__name__}", given, refused("SIZE", 0, 0)) for given in (b"", "")),
     ("an empty row", [b""], refused("SIZE", 1, 0)),
     *((f"a row of {count}", [bytes(count)], refused("SIZE", 1, count)) for count in (65_535, 65_536)),
@@ -276,8 +271,7 @@ NO_GRIDS = [
     ("a short text", ["1" * 10] * 9, refused("SIZE", 9, 10)),
     ("an oblong view", memoryview(bytes(200)).cast("B", (10, 20)), refused("SIZE", 10, 20)),
     ("flat bytes of side 11", bytes(121), refused("SIZE", 11, 11)),
-    ("rows of another size", [bytes(18)] * 10, refused("SIZE", 10, 18)),
-    ("one module", [b"\1"], refused("SIZE", 1, 1)),
+    ("rows of another size", [bytes(18)] * 10, refused("SIZE", 10, 18)), ("one module", [b"\1"], refused("SIZE", 1, 1)),
     ("side 11", [bytes(11)] * 11, refused("SIZE", 11, 11)),
     ("a rectangle that lies down", [bytes(8)] * 18, refused("SIZE", 18, 8)),
     ("the next side", [bytes(LARGEST.columns + 1)] * (LARGEST.rows + 1), refused("SIZE", LARGEST.rows + 1,

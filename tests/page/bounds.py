@@ -114,14 +114,11 @@ def drawings():
     chain = ("<defs>" + "".join(f'<g id="d{k}"><use href="#d{k + 1}"/></g>' for k in range(9000))
              + '</defs><use href="#d0"/>')
     for name, inner, why in (
-        ("100,000 uses", nested(5), many),
-        ("many uses of the first of a name", FIRST_OF_A_NAME, many),
-        ("nested uses", nested(9), many),
-        ("nested uses by xlink", nested(40, "xlink"), many),
+        ("100,000 uses", nested(5), many), ("many uses of the first of a name", FIRST_OF_A_NAME, many),
+        ("nested uses", nested(9), many), ("nested uses by xlink", nested(40, "xlink"), many),
         ("nested patterns", nested(9, "pattern"), many),
         ("itself", '<g id="a"><use href="#a"/></g>', many),
-        ("a chain", chain, many),
-        ("layers", '<g opacity=".5"><path d="M0 0h1v1z"/></g>' * 400, many),
+        ("a chain", chain, many), ("layers", '<g opacity=".5"><path d="M0 0h1v1z"/></g>' * 400, many),
         ("texts", f'<defs><text id="t">{"word " * 1000}</text></defs>{USE_OF_TEXT * 20}', many),
         ("a filter", "<filter id='f'/>",
          "The drawing has an element ‘filter’, which isn’t drawn here. Save it as PNG, and open that."),

@@ -27,12 +27,9 @@ def type_in(text, kind="typed", form=SMALLEST):
 
 SHORTENED = [
     # a line, and the shape of its symbol
-    ("HELLO WORLD AND ALL THAT IS THERE", "square"),
-    ("hello world and all that is there", "square"),
-    ("https://example.com/a/long/path?of=it", "any"),
-    ("ABC-123.DEF-456.GHI", "rectangle"),
-    ("\\xE9\\xE8\\xEA\\xEB\\xEC\\xED\\xEE\\xEF" * 3, "extended"),
-    ("123456", "square"),
+    ("HELLO WORLD AND ALL THAT IS THERE", "square"), ("hello world and all that is there", "square"),
+    ("https://example.com/a/long/path?of=it", "any"), ("ABC-123.DEF-456.GHI", "rectangle"),
+    ("\\xE9\\xE8\\xEA\\xEB\\xEC\\xED\\xEE\\xEF" * 3, "extended"), ("123456", "square"),
 ]
 
 

@@ -45,8 +45,7 @@ def earlier_links():
     linked()
     letters = fields()["grid"]
     for fragment, name, says, turned in (
-        ("message=old", "make", "old", []),
-        ("message=old&damage=5", "learn", "old", [5]),
+        ("message=old", "make", "old", []), ("message=old&damage=5", "learn", "old", [5]),
         ("message=old&border=3", "learn", "old", []),
         (f"message=old&grid={letters}&pane=read", "read", "Every answer is proved.", []),
         (f"message=old&grid={letters}&grid-damage=3.4&pane=read", "learn", "Every answer is proved.", [3, 8]),
@@ -118,12 +117,10 @@ def text_and_gs1():
 
 TYPED = [
     # (what is typed, what the hint says, its line, what is read)
-    ("Gr\u00f6\u00dfe", "", "Gr\\xF6\\xDFe", "Gr\u00f6\u00dfe"),
-    ("C:\\new", "", "C:\\\\new", "C:\\new"),
+    ("Gr\u00f6\u00dfe", "", "Gr\\xF6\\xDFe", "Gr\u00f6\u00dfe"), ("C:\\new", "", "C:\\\\new", "C:\\new"),
     ("\\F01 \\x41", "A backslash is one here, and spells nothing. Take it as spelled", "\\\\F01 \\\\x41",
      "\\F01 \\x41"),
-    ("a (b) [c]", "", "a (b) [c]", "a (b) [c]"),
-    ("\u20ac 5", "", "\\E{17}\\xA4 5", "\u20ac 5"),
+    ("a (b) [c]", "", "a (b) [c]", "a (b) [c]"), ("\u20ac 5", "", "\\E{17}\\xA4 5", "\u20ac 5"),
     ("\u00c3\u00a9", "", "\\E{3}\\xC3\\xA9", "\u00c3\u00a9"),
     ("(21)A\\(b", "Taken as GS1 data. Take it as text", "\\F21A(b", "(21)A\\(b"),
 ]

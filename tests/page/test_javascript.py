@@ -24,8 +24,7 @@ LINES = [
      " const element: string = identifier + value; void element;", True),
     ("const { quality } = read(new ImageData(3, 4), { quality: true }).symbols[0];"
      " const grade: 'A' | 'B' | 'C' | 'D' | 'F' | undefined = quality?.grades.contrast; void grade;", True),
-    ("read(new ImageData(3, 4), { quality: 1 });", False),
-    ("write('(10)A', { gs1: 1 });", False),
+    ("read(new ImageData(3, 4), { quality: 1 });", False), ("write('(10)A', { gs1: 1 });", False),
     ("readGrid(write('a')).elements.length;", False),
     ("const marks = [{ place: 0, number: 26 }];"
      " const grid = write({ items: [65], marks, head: 'programming' }, { form: 'smallest' });"
@@ -33,15 +32,11 @@ LINES = [
      " const named: string = charset + symbology; void named;"
      " if (head !== null && head !== 'programming') head.parts + 1;", True),
     ("const text: string | null = joined([readGrid(write('a'))]).text; void text;", True),
-    ("write({ marks: [] });", False),
-    ("write({ items: [65], head: { part: 1 } });", False),
+    ("write({ marks: [] });", False), ("write({ items: [65], head: { part: 1 } });", False),
     ("readGrid(write('a'), { limit: 'any' });", False),
     ("const number: string = readGrid(write('a')).marks[0].number;", False),
-    ("write('text', { form: 'binary' });", False),
-    ("write(7);", False),
-    ("read('picture.png');", False),
-    ("const text: string = readGrid(write('a')).text;", False),
-    ("const rows: string = write('a').rows;", False),
+    ("write('text', { form: 'binary' });", False), ("write(7);", False), ("read('picture.png');", False),
+    ("const text: string = readGrid(write('a')).text;", False), ("const rows: string = write('a').rows;", False),
 ]
 CONFIG = {"compilerOptions": {"strict": True, "noEmit": True, "types": [], "target": "es2022", "module": "node16",
                               "moduleResolution": "node16", "lib": ["es2022", "dom"]}, "include": ["*.mts"]}

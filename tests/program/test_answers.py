@@ -7,8 +7,7 @@ from tests.support.case import Case
 
 # Rows of these tables: name, words after the program's, standard input, status, standard output.
 READ = [
-    ("two records", "read", TWO, 0, b"123456\nA\n"),
-    ("no input", "read", b"", 0, b""),
+    ("two records", "read", TWO, 0, b"123456\nA\n"), ("no input", "read", b"", 0, b""),
     ("a record without its last LF", "read", GRID_123456[:-1], 0, b"123456\n"),
     ("a foreign character", "read", b"10x\n", 1, b"\\no 1 character\n"),
 ]
@@ -35,8 +34,7 @@ NORMAL = [
     ("all options and the end of options", "normal --border 1 --shorter --", ONE_WRONG, 0, GRID_123456 + b"\n"),
 ]
 WRITTEN = [
-    ("a line", "write", b"123456\n", 0, GRID_123456 + b"\n"),
-    ("a line without LF", "write", b"A", 0, GRID_A + b"\n"),
+    ("a line", "write", b"123456\n", 0, GRID_123456 + b"\n"), ("a line without LF", "write", b"A", 0, GRID_A + b"\n"),
     ("a refused line and another", "write", b"\\q\nA\n", 1, b"\\no 15 escape 1\n\n" + GRID_A + b"\n"),
     ("a line that is shortest in ASCII", "write --shorter", b"123456\n", 0, GRID_123456 + b"\n"),
 ]
@@ -60,10 +58,8 @@ WRONG_WORDS = {"the flag for read": "read --shorter", "the flag for check": "che
                "a word that isn't UTF-8": [b"\xff"], "a second word that isn't UTF-8": ["read", b"\xff"]}
 # Name, message line, and the sides of its grids with --shorter and without it; None if no size holds it.
 PROFILES = [
-    ("three bytes", rb"\x80\x80\x80", 12, 14),
-    ("two bytes, for which both are equally long", rb"\x80\x80", 12, 12),
-    ("no byte", b"", 10, 10),
-    ("FNC1 and four bytes", rb"\F\x80\x80\x80\x80", 16, 16),
+    ("three bytes", rb"\x80\x80\x80", 12, 14), ("two bytes, for which both are equally long", rb"\x80\x80", 12, 12),
+    ("no byte", b"", 10, 10), ("FNC1 and four bytes", rb"\F\x80\x80\x80\x80", 16, 16),
     ("FNC1 among 200 bytes", rb"\xFF" * 100 + rb"\F" + rb"\xFF" * 100, 80, 80),
     ("202 bytes, which fill a symbol", rb"\xFF" * 202, 52, 80),
     ("249 bytes, whose length is one codeword", rb"\xFF" * 249, 64, 88),

@@ -16,10 +16,7 @@ from tests.support.places import PROGRAM
 # What stands for dm_tool in the job that is hit. REAL is the program; `above` are the processes above it that belong to
 # its job, `parallel` is GNU parallel and `script` is dm_parts. Only processes of the run's own session are looked for.
 FAULTS = {
-    "ends with 0 before it has read": "exit 0",
-    "ends with 1 before it has read": "exit 1",
-    "ends with 2 before it has read": "exit 2",
-    "ends with 3 before it has read": "exit 3",
+    **{f"ends with {status} before it has read": f"exit {status}" for status in range(4)},
     "isn't found": "exec /nowhere/dm_tool",
     "is killed at once": "kill -s KILL $$",
     "is ended by TERM": "kill -s TERM $$",
