@@ -272,10 +272,8 @@ NO_GRIDS = [
     ("an oblong view", memoryview(bytes(200)).cast("B", (10, 20)), refused("SIZE", 10, 20)),
     ("flat bytes of side 11", bytes(121), refused("SIZE", 11, 11)),
     ("rows of another size", [bytes(18)] * 10, refused("SIZE", 10, 18)), ("one module", [b"\1"], refused("SIZE", 1, 1)),
-    ("side 11", [bytes(11)] * 11, refused("SIZE", 11, 11)),
     ("a rectangle that lies down", [bytes(8)] * 18, refused("SIZE", 18, 8)),
-    ("the next side", [bytes(LARGEST.columns + 1)] * (LARGEST.rows + 1), refused("SIZE", LARGEST.rows + 1,
-                                                                                LARGEST.columns + 1)),
+    *((f"side {side}", [bytes(side)] * side, refused("SIZE", side, side)) for side in (11, LARGEST.rows + 1)),
     *((f"{count} rows", [b""] * count, refused("SIZE", count, 0)) for count in (65_536, 70_000)),
     *((name, given, "TypeError") for name, given in (
         ("None", None), ("a number", 7), ("a row that is a number", [1]), ("modules that are nothing", [None]))),

@@ -54,14 +54,12 @@ class OnSystem:
         self.example("C with the shared library", [*words, os.path.join(self.system.built, linked)], is_shared=True)
 
     def test_the_example_in_cpp(self):
-        if reason := needs.lacking(self.system.cxx):
-            self.skipTest(reason)
+        self.skip_for(needs.lacking(self.system.cxx))
         self.example("C++", [self.system.cxx, "-std=c++17", "-O2", *WARNINGS, *self.system.flags,
                              f"-I{places.LIBRARY}", os.path.join(EXAMPLES, "example.cpp"), self.system.archive])
 
     def test_the_example_in_rust(self):
-        if reason := lacking_rust(self.system):
-            self.skipTest(reason)
+        self.skip_for(lacking_rust(self.system))
         self.example("Rust", [*self.system.rustc()[0], "--edition", "2021", "-O", "-D", "warnings", "-L",
                               f"native={self.system.built}", "-l", "static=ecc200",
                               os.path.join(EXAMPLES, "example.rs")])
@@ -85,8 +83,7 @@ class OnSystem:
                 self.sound(f"the stack of {name}", None if 0 < int(count) < STACK else f"{count} bytes")
 
     def test_names_and_data(self):
-        if reason := needs.lacking(self.system.nm):
-            self.skipTest(reason)
+        self.skip_for(needs.lacking(self.system.nm))
         self.all_sound(conduct.names(self.system))
         self.all_sound(conduct.unwound(self.system))
 
@@ -96,12 +93,8 @@ class Here(OnSystem, Case):
     """This system, with the sanitisers too, and by the callers in C++, Rust and Python."""
     system, rounds, rounds_of_threads = HERE, 20_000, 300
 
-    def needs_sanitisers(self):
-        if not has_sanitisers(self.folder()):
-            self.skipTest("cc has no sanitisers")
-
     def test_c_with_the_sanitisers(self):
-        self.needs_sanitisers()
+        self.skip_for(not has_sanitisers(self.folder()) and "cc has no sanitisers")
         self.all_sound(self.callers().in_c_with_sanitisers())
 
     @needs.programs("c++")
@@ -109,8 +102,7 @@ class Here(OnSystem, Case):
         self.all_sound(self.callers().in_cpp())
 
     def test_rust(self):
-        if reason := lacking_rust():
-            self.skipTest(reason)
+        self.skip_for(lacking_rust())
         self.all_sound(self.callers().in_rust())
 
     def test_python(self):
@@ -120,7 +112,7 @@ class Here(OnSystem, Case):
         self.example_in_python()
 
     def test_random_calls_with_the_sanitisers(self):
-        self.needs_sanitisers()
+        self.skip_for(not has_sanitisers(self.folder()) and "cc has no sanitisers")
         self.random_calls("-g", *SANITISED)
 
     def test_what_is_refused_for_its_counts_is_not_looked_at(self):
@@ -196,11 +188,9 @@ class AArch64(OnTarget, Case):
     """64-bit ARM, under Linux."""
 
     def test_python(self):
-        if reason := needs.lacking(*ARM_PROGRAMS) or os.geteuid() and "debootstrap has to be run by root":
-            self.skipTest(reason)
+        self.skip_for(needs.lacking(*ARM_PROGRAMS) or os.geteuid() and "debootstrap has to be run by root")
         self.system.python, problem = arm_python(self.folder())
-        if problem:
-            self.skipTest(f"Python for arm64 can't be had ({problem})")
+        self.skip_for(problem and f"Python for arm64 can't be had ({problem})")
         self.all_sound(self.callers().in_python())
         self.example_in_python()
 

@@ -43,8 +43,7 @@ class Installed(Packed):
 
     def test_another_user(self):
         """Runs the programs and reads each file."""
-        if os.geteuid():
-            self.skipTest("only root can run something as another user")
+        self.skip_for(os.geteuid() and "only root can run something as another user")
         files = [os.path.join(at, name) for at, _, names in os.walk(self.prefix) for name in names]
         self.row("files that others can't read", [it for it in files if not os.stat(it).st_mode & stat.S_IROTH], [])
         for words, wanted in ((["dm_tool", "write"], GRID), (["ecc200", "--version"], f"ecc200 {VERSION}\n")):

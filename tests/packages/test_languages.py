@@ -76,8 +76,7 @@ class Wheel(Clone):
         """Without network, by the system's setuptools, where the library isn't built."""
         place = os.path.join(self.room, "place")
         status, told = self.said(["/usr/bin/python3", "-m", "venv", "--system-site-packages", place])
-        if status:
-            self.skipTest("venv isn't installed (Debian package python3-venv)")
+        self.skip_for(status and "venv isn't installed (Debian package python3-venv)")
         alone = ["unshare", "-n"] if os.geteuid() == 0 and needs.has("unshare") else []
         words = [f"{place}/bin/pip", "install", "--no-index", "--no-build-isolation", "."]
         status, told = self.said([*alone, *words], "clone")
@@ -118,9 +117,8 @@ class Node(Clone):
         lines = {"right": 'const rows: number = write("a").rows;', "wrong": 'const rows: string = write("a").rows;'}
         for name, line in lines.items():
             places.wrote(f'import {{ write }} from "ecc200";\n{line}\nvoid rows;\n', self.user, f"{name}.mts")
-            words = ["tsc", "--strict", "--noEmit", "--target", "es2022", "--module", "node16", "--moduleResolution",
-                     "node16", f"{name}.mts"]
-            self.row(name, self.said(words, "user")[0] == 0, name == "right")
+            words = "tsc --strict --noEmit --target es2022 --module node16 --moduleResolution node16".split()
+            self.row(name, self.said([*words, f"{name}.mts"], "user")[0] == 0, name == "right")
 
 
 class Shells(Case):
@@ -133,6 +131,5 @@ class Shells(Case):
                 words = [shell, "-c", script, folder, typed]
                 self.row(f"{shell}, {typed}", commands.said(words, timeout=60), (0, f"{wanted}\n"))
                 asked += 1
-        if missing := needs.lacking(*SHELLS):
-            self.skipTest(missing)
+        self.skip_for(needs.lacking(*SHELLS))
         self.assertGreater(asked, 0)

@@ -84,9 +84,8 @@ class OtherSystems(Packed):
             self.there((path, os.path.isfile(os.path.join(root, "usr", path)))
                        for path in ("include/ecc200.h", "lib/python3/dist-packages/ecc200/core.py"))
             if self.has("lintian", "what lintian finds"):
-                changes = glob.glob(os.path.join(out, "*.changes"))
-                self.works(f"lintian for {target.triple}",
-                           ["lintian", "--allow-root", "--fail-on", "error,warning", *changes])
+                words = ["lintian", "--allow-root", "--fail-on", "error,warning"]
+                self.works(f"lintian for {target.triple}", [*words, *glob.glob(os.path.join(out, "*.changes"))])
 
     def test_the_archive_for_windows(self):
         """Its checksums, and its example, compiled with what it has and run over each of its libraries."""

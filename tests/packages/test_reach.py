@@ -14,8 +14,7 @@ WARNINGS = ["-Wall", "-Wextra", "-Werror"]
 @needs.library
 class Reach(Case):
     def setUp(self):
-        if places.OTHER_LIBRARY:
-            self.skipTest("another library is taken")
+        self.skip_for(places.OTHER_LIBRARY and "another library is taken")
         self.home = self.folder()
         self.prefix = os.path.join(self.home, ".local")
         # (rustup looks for its own below HOME)

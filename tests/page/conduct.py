@@ -164,8 +164,7 @@ def phones():
         run("scrollTo(0, 0)")
         ends = run("""return arguments[0].map((id) => document.getElementById(id).getBoundingClientRect())
             .map(({ top, bottom, height }) => [Math.round(top), Math.round(bottom), height > 0])""",
-            ["verdict", "easel", *acts],
-        )
+            ["verdict", "easel", *acts])
         out = [end for end in ends if end[0] < 0 or end[1] > 844 or not end[2]]
         expect(f"{task}: symbol, act and verdict together on a phone", out, [])
     write("\\F010123456789012810AB-42")

@@ -78,8 +78,7 @@ def near(came):
 def uses():
     given = json.dumps([[number, items] for number, _, items in IN_CHARSETS])
     rows = corpus.rows("charsets")
-    contents = [content_of(line) for line, *_ in rows]
-    words = ["node", USES, on.module, given, json.dumps(texts()), json.dumps(contents)]
+    words = ["node", USES, on.module, given, json.dumps(texts()), json.dumps([content_of(line) for line, *_ in rows])]
     done = subprocess.run(words, stdout=subprocess.PIPE, timeout=300, check=True)
     answers = {answer.pop("name"): answer for answer in map(json.loads, done.stdout.splitlines())}
     came = lambda name: answers[name].get("came", answers[name])

@@ -356,9 +356,8 @@ def bursts():
             odd.append((now["shown"], here["stage"], acts))
     expect(f"each of {len(some)} bursts has come to what was entered and done last", odd[:1], [])
     for limit, both in grids.items():
-        more = [] if limit is None else ["--border", str(limit)]
         expect(f"what is read after them, limit {limit}", [shown for _, shown in both],
-               told([text for text, _ in both], *more))
+               told([text for text, _ in both], *([] if limit is None else ["--border", str(limit)])))
     expect("rectangles, and what has doubtful modules", len(others) > 300, True)
     answers = judged([question for question, _ in others])
     expect("what is read of these", [as_program(shown) if shown["state"] != "Refused" else None for _, shown in others],

@@ -55,9 +55,8 @@ def in_order():
 def beside_others():
     """A PDF, and what is no picture, is named as not read, with what to do."""
     push("tab-read")
-    body = png(written("beside").split("\n"), 3, 2)
-    drop("body", [("mark.png", "image/png", body), ("sheet.pdf", "application/pdf", b"%PDF-1.4\n"),
-                  ("notes.txt", "text/plain", b"notes")])
+    drop("body", [("mark.png", "image/png", png(written("beside").split("\n"), 3, 2)),
+                  ("sheet.pdf", "application/pdf", b"%PDF-1.4\n"), ("notes.txt", "text/plain", b"notes")])
     pdf = "sheet.pdf is a PDF, which isn’t read here: save its pages as pictures, or take pictures of the screen."
     soon("beside a picture", lambda: (shown()["says"], text_of("picture-hint")),
          ("beside", f"mark.png: 14 × 14. Read as it stands. {pdf} notes.txt isn’t looked at."))

@@ -213,8 +213,7 @@ def list_opened_again():
     push("tab-read")
     grids = [written("whole").split("\n"), spoilt_border(written("A border that is damaged").split("\n"), 8),
              beyond(written("damaged beyond what can be corrected").split("\n"))]
-    places = ((30, 40), (130, 40), (250, 40))
-    opened("three.png", scene(380, 190, list(zip(grids, places))))
+    opened("three.png", scene(380, 190, list(zip(grids, ((30, 40), (130, 40), (250, 40))))))
     soon("what is listed", lambda: len(run(LISTED)), 3)
     before, told = run(LISTED), saved("found.json", "found-json")
     saved("found.csv", "found-csv")

@@ -135,10 +135,9 @@ def sizes_by_shape():
 
 def refusal_in(size):
     """Whether it is said that a size, or no size of a shape, holds the message."""
-    whose = {"square": "No square up to 144 × 144 modules holds",
-             "rectangle": "No rectangle up to 16 × 48 modules holds",
-             "extended": "No rectangle up to 26 × 64 modules holds", "any": "No size holds"}
-    begin = whose.get(size) or f"{words_of(table()[size])} modules don’t hold"
+    most = {"square": "square up to 144 × 144 modules", "rectangle": "rectangle up to 16 × 48 modules",
+            "extended": "rectangle up to 26 × 64 modules", "any": "size"}
+    begin = f"No {most[size]} holds" if size in most else f"{words_of(table()[size])} modules don’t hold"
     said = text_of("message-hint")
     return said.startswith(f"{begin} this message in this form. It is ") and " too long." in said
 
@@ -220,9 +219,8 @@ def at_an_angle():
         placed = [(rows, ((length - across) / 2, (length - down) / 2))]
         said = opened(f"{name}.png", scene(length, length, placed, (math.cos(turn), math.sin(turn)), 9, *greys))
         stands = ", and ".join(filter(None, [how, f"turned by {abs(degrees)}° to the {side}"]))
-        found = f"{name}.png: {words_of(table()[name])}. The symbol is {stands}, and shown upright."
-        expect(f"{name} at {degrees} degrees, {greys}", (shown()["state"], shown()["says"], grid(), said),
-               ("Read", line, text, found))
+        expect(f"{name} at {degrees} degrees, {greys}", (shown()["state"], shown()["says"], grid(), said), (
+            "Read", line, text, f"{name}.png: {words_of(table()[name])}. The symbol is {stands}, and shown upright."))
 
 
 # ---- Linked and compared

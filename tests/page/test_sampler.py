@@ -23,9 +23,8 @@ MEBIBYTE = 1 << 20
 
 def found(questions, sampler=SAMPLER):
     """What the sampler in WebAssembly answers to questions."""
-    lines = "\n".join(map(json.dumps, questions))
-    done = subprocess.run([*FINDER, LIBRARY, sampler], input=lines.encode(), stdout=subprocess.PIPE, timeout=600,
-                          check=True)
+    done = subprocess.run([*FINDER, LIBRARY, sampler], input="\n".join(map(json.dumps, questions)).encode(),
+                          stdout=subprocess.PIPE, timeout=600, check=True)
     return [json.loads(line) for line in done.stdout.splitlines()]
 
 

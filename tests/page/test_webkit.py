@@ -25,9 +25,8 @@ class WebKit(Case):
     def setUpClass(cls):
         on.program, on.folder = places.PROGRAM, pathlib.Path(cls.folder_of_class())
         cls.addClassCleanup(browser.end)
-        screen = cls.enterClassContext(commands.started(["Xvfb", "-displayfd", "1", "-screen", "0", "1240x1500x24",
-                                                         "-nolisten", "tcp"], stdout=subprocess.PIPE,
-                                                        stderr=subprocess.DEVNULL))
+        words = "Xvfb -displayfd 1 -screen 0 1240x1500x24 -nolisten tcp".split()
+        screen = cls.enterClassContext(commands.started(words, stdout=subprocess.PIPE, stderr=subprocess.DEVNULL))
         browser.start_webkit(f":{screen.stdout.readline().decode().strip()}")
 
     def setUp(self):

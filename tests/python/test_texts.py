@@ -327,9 +327,8 @@ class Texts(PackageCase):
     def test_continued(self):
         """A charset holds to the next mark, in later parts too, and letters may be cut; FNC1 in front is GS1's."""
         data = "\u041f\u65e5\u672c".encode("utf-8")
-        cut = [part(1, 3, data[:1], marks=[(0, 26)]), part(2, 3, data[1:4]),
-               part(3, 3, data[4:] + b"\xcf", marks=[(4, 22)])]
-        got = ecc200.join(cut)
+        got = ecc200.join([part(1, 3, data[:1], marks=[(0, 26)]), part(2, 3, data[1:4]),
+                           part(3, 3, data[4:] + b"\xcf", marks=[(4, 22)])])
         self.row("letters that are cut", (got.text, got.charset, got.marks, got.data),
                  ("\u041f\u65e5\u672c\u041f", "utf-8, windows-1251", ((0, 26), (8, 22)), data + b"\xcf"))
         got = ecc200.join([part(1, 2, [256, *b"10A"]), part(2, 2, [256, *b"21B"])])
@@ -341,9 +340,8 @@ class Texts(PackageCase):
         for _, reading, _ in printed(corpus.marks("contents")):
             if isinstance(reading.head, tuple):
                 letters.setdefault(reading.head[1:], []).append(reading)
-        told = {file: ecc200.join(reversed(parts)).text for file, parts in letters.items()}
-        self.row("parts of zint", told, {(3, 12, 34): "Осторожно, хрупкое: 日本 7", (2, 254, 1): "日本",
-                                         (2, 1, 1): "010952123454321310ABC42"})
+        self.row("parts of zint", {file: ecc200.join(reversed(parts)).text for file, parts in letters.items()},
+                 {(3, 12, 34): "Осторожно, хрупкое: 日本 7", (2, 254, 1): "日本", (2, 1, 1): "010952123454321310ABC42"})
 
     def test_smallest(self):
         capitals, signs = b"ABCDEFGHIJKLMNOPQRSTUVWXY", b"-./-./-./-./-./-./-."

@@ -88,8 +88,7 @@ class Shell(Case):
 
     def needs_of(self, command):
         """Skips the row or the case where something that a command needs isn't installed."""
-        if reason := lacking(command):
-            self.skipTest(reason)
+        self.skip_for(lacking(command))
 
 
 class Zxing(Shell):

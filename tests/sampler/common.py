@@ -66,15 +66,13 @@ class SamplerCase(Rows):
 
     def compiles(self, source, made, *words, compiler=("cc", "-std=c11")):
         """That a C file of these tests compiles without a warning."""
-        headers = [f"-I{self.sources}", f"-I{places.LIBRARY}"]
-        done = run([*compiler, "-Wall", "-Wextra", "-Werror", *headers, places.path("tests", "sampler", source),
-                    "-o", made, *words])
+        done = run([*compiler, "-Wall", "-Wextra", "-Werror", f"-I{self.sources}", f"-I{places.LIBRARY}",
+                    places.path("tests", "sampler", source), "-o", made, *words])
         self.row(f"{source} compiles", done.stderr.decode(), "")
 
     def setUp(self):
         super().setUp()
-        if self.lacking:
-            self.skipTest(self.lacking)
+        self.skip_for(self.lacking)
 
 
 def paths_for(folder, built, base):

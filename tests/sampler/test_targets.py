@@ -26,8 +26,7 @@ class Targets(Rows):
         picture = pgm(pixels_of(grid_of("FROM C")))
         for triple, target in targets.TARGETS.items():
             with self.subTest(triple):
-                if reason := lacking(target):
-                    self.skipTest(reason)
+                self.skip_for(lacking(target))
                 self.from_c(target, picture)
 
     def from_c(self, target, picture):
@@ -46,9 +45,7 @@ class Targets(Rows):
 
     def test_the_set_on_arm(self):
         target = targets.TARGETS[ARM]
-        if reason := lacking(target):
-            self.skipTest(reason)
+        self.skip_for(lacking(target))
         program = os.path.join(self.built(ARM)[0], "dm_sample")
-        if not os.path.isfile(program):
-            self.skipTest("libpng-dev:arm64 or libjpeg-dev:arm64 isn't installed")
+        self.skip_for(not os.path.isfile(program) and "libpng-dev:arm64 or libjpeg-dev:arm64 isn't installed")
         the_set(self, self.folder(), [*target.emulator, program])

@@ -187,10 +187,9 @@ def signalled(block, given, wanted, number, to_all, delay):
     """A recipe that gets a signal after so many seconds, or all its processes; delay None: once an answer has come."""
     with tempfile.TemporaryDirectory() as folder:
         put(folder, given)
-        words = ["sh", "-c", "exec " + block.split("\n")[1]]
-        run = subprocess.Popen(words, cwd=folder, env=environment(folder, is_first=delay is not None),
-                               stdin=subprocess.DEVNULL,
-                               stdout=subprocess.PIPE, stderr=subprocess.PIPE, start_new_session=True)
+        run = subprocess.Popen(["sh", "-c", "exec " + block.split("\n")[1]], cwd=folder, start_new_session=True,
+                               env=environment(folder, is_first=delay is not None), stdin=subprocess.DEVNULL,
+                               stdout=subprocess.PIPE, stderr=subprocess.PIPE)
         answers = os.read(run.stdout.fileno(), 100) if delay is None else time.sleep(delay) or b""
         (os.killpg if to_all else os.kill)(run.pid, number)
         more, said = run.communicate(timeout=60)

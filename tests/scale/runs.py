@@ -59,9 +59,9 @@ def environment(folder, path=PATH, ssh=None, is_first=False):
     """HOME is empty, so that GNU parallel finds no profile, and so is SHELL. A first run finds nothing measured."""
     scratch = os.path.join(folder, "scratch")
     os.makedirs(scratch, exist_ok=True)
-    hosts = {"PARALLEL_SSH": ssh} if ssh else {}
     return commands.environment(PATH=path, HOME=scratch, TMPDIR=scratch, SHELL="",
-                                PARALLEL_HOME="" if is_first else measured().name, **hosts)
+                                PARALLEL_HOME="" if is_first else measured().name,
+                                **({"PARALLEL_SSH": ssh} if ssh else {}))
 
 
 def put(folder, texts):
@@ -76,9 +76,8 @@ def left_in(folder):
 def recipe(block, folder, texts, ssh=None, is_first=False):
     """The status of a recipe, and the answers that it leaves."""
     put(folder, texts)
-    env = environment(folder, ssh=ssh, is_first=is_first)
-    done = subprocess.run(["bash", "-c", block], cwd=folder, env=env, stdin=subprocess.DEVNULL, stderr=subprocess.PIPE,
-                          timeout=300)
+    done = subprocess.run(["bash", "-c", block], cwd=folder, env=environment(folder, ssh=ssh, is_first=is_first),
+                          stdin=subprocess.DEVNULL, stderr=subprocess.PIPE, timeout=300)
     return done.returncode, places.read(os.path.join(folder, "answers.txt"))
 
 
@@ -113,9 +112,8 @@ def two_hosts(path=PATH):
                               stdin=subprocess.DEVNULL, stderr=subprocess.DEVNULL) as daemon:
             try:
                 ssh = ["ssh", "-F", client]
-                answered = any(time.sleep(0.1)
-                               or not subprocess.run([*ssh, "one", "true"], stdin=subprocess.DEVNULL).returncode
-                               for _ in range(50))
+                login = lambda: subprocess.run([*ssh, "one", "true"], stdin=subprocess.DEVNULL).returncode
+                answered = any(time.sleep(0.1) or login() == 0 for _ in range(50))
                 yield " ".join(ssh) if answered else None
             finally:
                 daemon.terminate()

@@ -89,8 +89,7 @@ class Disks(Faults):
     """A folder for temporary files, or for the answers, on a disk that is full before the end."""
 
     def setUp(self):
-        if not can_mount():
-            self.skipTest("full disks take root's right to mount one")
+        self.skip_for(not can_mount() and "full disks take root's right to mount one")
 
     def disk(self, size):
         """Mounts a disk, which is gone when the case ends."""

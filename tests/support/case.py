@@ -57,6 +57,11 @@ class Case(unittest.TestCase):
         """Gives a temporary folder, which is gone when the last case of the class has ended."""
         return cls.enterClassContext(tempfile.TemporaryDirectory(ignore_cleanup_errors=True))
 
+    def skip_for(self, reason):
+        """Skips the case, or the row, where there is a reason."""
+        if reason:
+            self.skipTest(reason)
+
     def process(self, words, **how):
         """Starts a process, which is ended when the case ends."""
         return self.enterContext(commands.started(words, **how))
