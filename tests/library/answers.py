@@ -68,9 +68,7 @@ class Answers:
             return None
         if name in ("read", "normal") and limit_of(words[-5]) is NOT_SAID:
             return None
-        if name in ("write", "write_bytes") and not self.is_choice(*words[1:4]):
-            return None
-        if name in ("write", "write_bytes") and head_of(words[5]) is NOT_SAID:
+        if name in ("write", "write_bytes") and (not self.is_choice(*words[1:4]) or head_of(words[5]) is NOT_SAID):
             return None
         try:
             return getattr(self, f"to_{name}")(*words)

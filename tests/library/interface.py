@@ -94,17 +94,11 @@ class Interface:
 
     @staticmethod
     def new_calls():
-        yield from faults()
-        yield from wide()
-        yield from messages()
-        yield from choices()
-        yield from sizes()
-        yield from modules()
-        yield from limits()
+        for requests in (faults, wide, messages, choices, sizes, modules, limits):
+            yield from requests()
         yield from words(set(CODES.values()))
-        for some in (content_cases.ALL, small_cases.ALL):
-            for requests in some:
-                yield from requests()
+        for requests in (*content_cases.ALL, *small_cases.ALL):
+            yield from requests()
         yield "compatible", "1"
 
     def of_the_header(self):
@@ -124,7 +118,7 @@ class Interface:
         for request, wanted in self.calls():
             name, *given = request.split()
             is_said = all(int(word) in kind.values() for word, kind in zip(given, kinds.get(name, [])))
-            is_said &= name not in ("read", "normal") or is_limit(given[-5])
+            is_said &= name not in ("read", "normal") or int(given[-5].partition(":")[0]) in LIMITS.values()
             if is_said and (name not in ("write", "write_bytes") or is_written(*given[:6])):
                 yield request, wanted
         names = ["FNC1", *EXTENTS, *PROFILES, *CODES]
@@ -133,10 +127,6 @@ class Interface:
         yield "version", self.version
         for items, said, gs1 in TEXTS:
             yield f"text {numbers(items)}", f"{len(said)} gs1 {gs1} bytes {numbers(said)}"
-
-
-def is_limit(limit):
-    return int(limit.partition(":")[0]) in LIMITS.values()
 
 
 def is_written(form, shape, rows, columns, extent, head):

@@ -10,7 +10,7 @@ from tests.library.model import FNC1, ONE
 from tests.sampler.common import Searches
 from tests.sampler.pictures import grid_of, pgm, pixels_of, record, run, spelling, turned
 from tests.sampler.sizes import tilted
-from tests.support import places
+from tests.support import package
 
 PROGRAMMING = "programming"
 GREEK = Content(tuple("Ωmega".encode()), ((26, 0), ))
@@ -133,8 +133,7 @@ class Contents:
     def test_contents_in_python(self):
         """Python's `find` gives them."""
         contents, rows = parts()
-        env = {**os.environ, "PYTHONPATH": places.PACKAGE, "ECC200_LIBRARY": places.SHARED,
-               "ECC200_SAMPLE_LIBRARY": os.path.join(self.plain, "libecc200_sample.so")}
+        env = {**os.environ, **package.settings(), "ECC200_SAMPLE_LIBRARY": f"{self.plain}/libecc200_sample.so"}
         done = run([sys.executable, "-c", FINDS], pgm(rows), env=env)
         self.row("Python finds them", done.stderr.decode(), "")
         contents_of = [[list(content.items), [[place, number] for number, place in content.marks],
