@@ -7,7 +7,7 @@
 #include "texture.h"
 
 enum { WORK_OF_A_WINDOW = 400000, WORK_OF_A_MODULE = 1500 };
-enum { SPOTS = 12, BORDERS = 3, LEAST_EXTENT = 8, CLEAR = 6 };
+enum { SPOTS = 12, BORDERS = 6, LEAST_EXTENT = 8, CLEAR = 6 };
 
 /* How many places of a level are looked at, and how many lattices at each: the likeliest. */
 struct tries {
