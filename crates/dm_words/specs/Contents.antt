@@ -47,7 +47,7 @@ pub record IsContent (content : ContentView) : Type 0 where
   pub items : IsMessage content.items
   pub marks : AreMarks 0 (length content.items) content.marks
 
--- So many of the codewords are ECI. What they say has no more marks.
+-- So many of the codewords are 241, which is ECI in ASCII encodation. What they say has no more marks.
 unfoldable pub eci_count : List ℕ → ℕ
 eci_count [] = 0
 eci_count (word ∷ words) = (if word == eci_word then 1 else 0) + eci_count words
@@ -149,7 +149,7 @@ pub record Says (extent : Extent) (words : List ℕ) (content : ContentView) : T
   pub content_is : content ≡ said_content opening said
 
 -- The codewords from a place on, up to the end of the symbol, have this fault: in the wide extent ECI has no designator
--- behind it; or no part begins there in the extent, and in the wide one they don't begin with ECI.
+-- behind it; or neither a part nor the end begins there in the extent, and in the wide one they don't begin with ECI.
 pub data IsContentFault (extent : Extent) (place : ℕ) (words : List ℕ) (why : ContentFault) : Type 0 where
   designator : (more : List ℕ) → extent ≡ Wide
       → ((first rest : List ℕ) (number : ℕ) → IsDesignator first number → more ≢ first ++ rest)

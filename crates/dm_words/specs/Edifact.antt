@@ -9,8 +9,7 @@ use Rattle.dm_words.specs.Codewords.{codeword_of}
 use Rattle.dm_words.specs.Joined.{Piece, spelled, gathered}
 
 -- A group is three codewords for four values of six bits each. The number of the codewords, high byte first, is the
--- number of the values, first
--- value highest.
+-- number of the values, first value highest.
 pub record IsGroup (words values : List ℕ) : Type 0 where
   pub high : ℕ
   pub middle : ℕ
@@ -30,22 +29,19 @@ pub record IsGroup (words values : List ℕ) : Type 0 where
   pub values_are : values ≡ first ∷ second ∷ third ∷ fourth ∷ []
 
 -- A run ends in one of these ways, each with its codewords and the values before the unlatch, if it has one; `after`
--- are
--- the codewords that follow, up to the end of the symbol, including pads. Where a group begins, three codewords or more
--- are left in the symbol. That the bits behind an unlatch aren't looked at, and that a run may be empty, are rules of
--- this project.
+-- are the codewords that follow, up to the end of the symbol, including pads. Where a group begins, three codewords or
+-- more are left in the symbol. That the bits behind an unlatch aren't looked at, and that a run may be empty, are rules
+-- of this project.
 pub data IsEdifactEnd (words after values : List ℕ) : Type 0 where
   -- At most two codewords are left in the symbol, where a group would begin. They are read in ASCII.
   few_left : words ≡ [] → values ≡ [] → length after ≤ 2 → IsEdifactEnd words after values
   -- The unlatch is the first value of a group, and takes one codeword of eight bits: the unlatch has the six highest,
-  -- and
-  -- the two lowest, `rest`, aren't looked at. At least two codewords follow.
+  -- and the two lowest, `rest`, aren't looked at. At least two codewords follow.
   first : (word rest : ℕ) → word ≡ 4 * 31 + rest → rest < 4 → words ≡ word ∷ [] → values ≡ []
       → 2 ≤ length after → IsEdifactEnd words after values
   -- The unlatch is the second value of a group, and takes two codewords of sixteen bits, high byte first: the value
-  -- before
-  -- it has the six highest, the unlatch has six, and the four lowest, `rest`, aren't looked at. At least one codeword
-  -- follows.
+  -- before it has the six highest, the unlatch has six, and the four lowest, `rest`, aren't looked at. At least one
+  -- codeword follows.
   second : (high low value rest : ℕ) → low < 256 → value < 64
       → 256 * high + low ≡ 1024 * value + 16 * 31 + rest → rest < 16 → words ≡ high ∷ low ∷ []
       → values ≡ value ∷ [] → 1 ≤ length after → IsEdifactEnd words after values

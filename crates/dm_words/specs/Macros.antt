@@ -1,5 +1,5 @@
--- Macros (ISO/IEC 16022, 05 and 06 macro characters): one codeword, the first of the symbol, for the header and the
--- trailer of a message.
+-- Macros (ISO/IEC 16022, 05 and 06 macro characters): one codeword, the first of the symbol but for empty runs, for the
+-- header and the trailer of a message.
 use Rattle.std.specs.Prelude.{◌≡◌, ℕ, List, [], ◌∷◌, ◌++◌, map}
 use Rattle.dm_words.specs.declared.item.Item.{Item}
 use Rattle.dm_words.specs.declared.item.Item.TheVariants.{Byte, Fnc1}

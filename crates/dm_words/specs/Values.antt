@@ -38,8 +38,7 @@ pub data IsSpelling (set : CodeSet) (values : List ℕ) (item : Item) : Type 0 w
       → values ≡ upper ++ more → item ≡ Byte (byte + 128) → IsSpelling set values item
 
 -- A filler is nothing, or one shift with no value after it, which means nothing. The standard fills with Shift 1; that
--- any shift is passed over is a
--- rule of this project.
+-- any shift is passed over is a rule of this project.
 pub data IsFiller (set : CodeSet) (values : List ℕ) : Type 0 where
   nothing : values ≡ [] → IsFiller set values
   lone_shift : (value : ℕ) (shift : Shift) → basic_of set value ≡ Some (basic.Shift shift) → values ≡ value ∷ []

@@ -17,10 +17,10 @@ use Rattle.ecc200_calls.specs.declared.fault.Fault.{Fault}
 --  5, 6  a symbol isn't read, because of its borders or of a block
 --  7 ..  its data codewords spell no message, to 13, or no content, 20 and 21
 --     14  what is to be written fits no size that may be taken
---     15  this number, at this index, counted from 0, stands for no item
---     16  this number stands for no profile, for no extent (17), choice of sizes (18) or border limit (24)
+--     15  this number, at this index, counted from 0 and 65535 at most, stands for no item
+--     16  this number stands for no profile or form, for no extent (17), choice of sizes (18) or border limit (24)
 --     19  doubtful modules are given, but not as many as the symbol has modules
---     22  the mark with this index, counted from 0, is wrong
+--     22  the mark with this index, counted from 0 and 65535 at most, is wrong
 --     23  the numbers of a head are those of none
 abbrev pub fault : ℕ → ℕ → ℕ → Fault
 fault code value place = record { code = code; value = value; place = place }

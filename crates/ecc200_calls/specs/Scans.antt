@@ -23,8 +23,8 @@ use Rattle.ecc200_calls.specs.Modules.{AreDoubtful, AreModulesOf, IsGivenFault}
 abbrev pub usual_limit : ℕ → ℕ → ℕ
 usual_limit rows columns = (rows + columns) / 8
 
--- The number 0 stands for the usual border limit, 1 for as many border faults as are sure, 2 for any number of them,
--- since no symbol has more than 65,535, 3 for the limit that is given, and no other number for any.
+-- The number 0 stands for the usual border limit, 1 for as many border faults as are sure, as `IsLimit` says, 2 for any
+-- number of them, since no symbol has more than 65,535, 3 for the limit that is given, and no other number for any.
 abbrev pub limit_of : Scan → Option BorderLimit
 limit_of scan =
     if nat_eq scan.limit 0 then Some (Modules (usual_limit scan.rows scan.columns))
