@@ -4,8 +4,8 @@
 of the crate as a function of its own, named as the edit is, beside the function whose contract and proof it has, and
 the check is asked for these functions and what they call alone. A method of a trait can't stand beside itself, so its
 wrong body takes its place. Where an edit changes several functions, each one is tried by itself. A function is refused
-where something of its own is, and not only what it calls. Where the table must-fail/goals.md names a goal, that is the
-answer to this goal, and other goals aren't tried. The crates below are taken as they were proved last.
+where something of its own is, and not only what it calls. Where must-fail/goals.md names a goal, that is its answer, or
+the search where the right body needs none, and no other goal is tried. The crates below are taken as proved last.
 
 Nothing else is proved in the copy, since tests/proofs does that: each other function is an endless loop there, and a
 hole stands for its proof and for that of each lemma. The check goes on past it, so that a lemma is taken by what it
@@ -37,11 +37,21 @@ NO_OFFERS = f"\n{REFUSED} : ⊥\n{REFUSED} = tt\n"
 TAKEN_AWAY = re.compile(r"has no field|is not in scope|has no `|was not admitted")
 OPENS_FUNCTION = r"( *)(?:pub(?:\(\w+\))? )?(?:const )?(?:extern \"C\" )?fn (\w+)"
 OPENS_IMPL = r"()impl(?:<.*?>)? (?:([\w:]+)(?:<.*>)? for )?(\w+)"
+# What has parameters beside lifetimes: the answers of such a function take them before what is known at the goal.
+IS_GENERIC = r"(?:\bfn \w+|\bimpl)<(?!'\w+(?:, '\w+)*>)"
+# The answer to a goal that the right body needs none for, since the toolchain's search finds it.
+SEARCHED = """\
+use Rattle.std.proofs.Common.{{rules}}
+use {module}.Goals as goal
+
+pub {goal} : goal.{goal}
+{goal} {parameters}c = search rules fits 100
+"""
 # What is said where the crates below aren't proved.
 LACKING = "not proved as they stand: {}; run `rt lib` in each, or `make build`, first"
 
 # A function of a file: its path below the crate, the lines where its comment and itself begin, and the line after.
-Function = collections.namedtuple("Function", "path file above start end is_of_trait")
+Function = collections.namedtuple("Function", "path file above start end is_of_trait is_generic")
 # The wrong body of a function: the name of the edit, the lines that the function then has, and the goal whose answer
 # refuses it, if that is known.
 Edit = collections.namedtuple("Edit", "name function lines by", defaults=[None])
@@ -71,7 +81,9 @@ def function_at(lines, at, file):
     module = [it for it in file.removeprefix("src/").removesuffix(".rt").split("/") if it not in ("lib", "main", "mod")]
     # (an impl for a type of the language, such as u8, is called U8 and the trait)
     owner = [it[3][0].upper() + it[3][1:] + (it[2] or "").split("::")[-1] for _, _, it in impls]
-    return Function("::".join([*module, *owner, match[2]]), file, above, start, end, any(it[2] for _, _, it in impls))
+    is_generic = any(re.search(IS_GENERIC, lines[it]) for it, _, _ in [functions[-1], *impls])
+    return Function("::".join([*module, *owner, match[2]]), file, above, start, end, any(it[2] for _, _, it in impls),
+                    is_generic)
 
 
 def body_of(lines, start):
@@ -145,17 +157,17 @@ def write_copy(crate, edits, room):
     for edit in sorted(edits, key=lambda it: -it.function.start):
         function, path = edit.function, os.path.join(room, edit.function.file)
         lines = places.text_of(path).split("\n")
+        above = lines[function.above : function.start]
+        if edit.by:
+            above = [*(it for it in above if "#[tactic(" not in it), "#[tactic(none)]"]
         if function.is_of_trait:
-            lines[function.start : function.end] = edit.lines
+            lines[function.above : function.end] = [*above, *edit.lines]
         else:
             head = re.sub(r"\bfn \w+", f"fn {edit.name}", edit.lines[0])
-            above = lines[function.above : function.start]
-            if edit.by:
-                above = [*(it for it in above if "#[tactic(" not in it), "#[tactic(none)]"]
             lines[function.end : function.end] = ["", *above, head, *edit.lines[1:]]
             copy_proof(crate, room, function.path, judged(edit))
-            if edit.by:
-                leave_answers_out(edit.by, os.path.join(room, "proofs", *judged(edit).split("::"), "Answers.antt"))
+        if edit.by:
+            answer_alone(crate, edit, os.path.join(room, "proofs", *judged(edit).split("::"), "Answers.antt"))
         places.wrote("\n".join(lines), path)
 
 
@@ -189,11 +201,16 @@ def copy_proof(crate, room, path, to):
         places.wrote(re.sub(rf"{re.escape(module)}\b", copied, places.text_of(file)), file)
 
 
-def leave_answers_out(goal, path):
-    """Leaves only the answer to this goal, and lemmas, in a file of answers."""
+def answer_alone(crate, edit, path):
+    """Leaves only the answer to the edit's goal, and lemmas, in a file of answers, or else that of the search."""
     answered = lambda part: re.search(r"(?m)^pub (\S+) :\s+goal\.", part)
-    parts = re.split(r"\n\n(?=\S)", places.text_of(path))
-    places.wrote("\n\n".join(it for it in parts if not answered(it) or answered(it)[1] == goal), path)
+    parts = re.split(r"\n\n(?=\S)", places.text_of(path)) if os.path.exists(path) else []
+    kept = [it for it in parts if not answered(it) or answered(it)[1] == edit.by]
+    if not any(map(answered, kept)):
+        os.makedirs(os.path.dirname(path), exist_ok=True)
+        kept = [SEARCHED.format(module=f"Rattle.{crate}.proofs.{judged(edit).replace('::', '.')}", goal=edit.by,
+                                parameters="g " * edit.function.is_generic)]
+    places.wrote("\n\n".join(kept), path)
 
 
 def leave_proofs_out(crate, edits, stubs, room):
@@ -287,16 +304,20 @@ def log_of(crate):
     return places.path("out", f"edits-{crate}.log")
 
 
+def refusals(edit, said):
+    """What is refused for the edit's own fault: of its goal, where one is named."""
+    real = [it for it in said.own if not TAKEN_AWAY.search(it)]
+    return [it for it in real if it.startswith(f"`{edit.by}`")] if edit.by else real
+
+
 def verdict(edit, said):
     """Whether the edit is refused, and what to say of it, or None if only what its function calls is refused."""
     found = said.get(judged(edit))
     if not found:
         return False, "BAD EDIT: the check says nothing of it"
-    real = [it for it in found.own if not TAKEN_AWAY.search(it)]
-    if edit.by:
-        real = [it for it in real if it.startswith(f"`{edit.by}`")]
-        if not real:
-            return False, f"NOT REFUSED: the answer to {edit.by} isn't"
+    real = refusals(edit, found)
+    if edit.by and not real:
+        return False, f"NOT REFUSED: the answer to {edit.by} isn't"
     if real:
         return True, f"refused, as it must be: {real[0][:160]}"
     if found.own:
@@ -342,9 +363,16 @@ def try_edits(crate, left):
 
 def try_copies(crate, edits):
     """Gives for each function beside which an edit stands whether it is proved as its own copy, and has nothing refused
-    but the declaration that the answers for a wrong body end with, and what to say of it."""
+    but the declaration that the answers for a wrong body end with, and what to say of it; then for each goal that is
+    named for an edit whether its answer holds in the right body, if the goal arises there."""
     begin_log(crate)
     copies = unchanged(crate, edits)
     proved, ended = check(crate, copies, are_wrong=False), check(crate, copies, are_wrong=True)
     is_well = lambda path: path in proved and proved[path].is_proved and path in ended and not ended[path].own
-    return [(is_well(judged(it)), f"{it.function.path}, copied as {it.name}") for it in copies]
+    right = {it.function: it.lines for it in copies}
+    named = {(it.function, it.by): it._replace(lines=right[it.function]) for it in edits
+             if it.by and it.function in right}
+    answered = check(crate, named.values(), are_wrong=True) if named else {}
+    return [*((is_well(judged(it)), f"{it.function.path}, copied as {it.name}") for it in copies),
+            *((not refusals(it, answered[judged(it)]), f"{it.by} of {it.function.path}, copied as {it.name}")
+              for it in named.values())]

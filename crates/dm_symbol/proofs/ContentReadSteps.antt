@@ -4,7 +4,7 @@ use Rattle.dm_symbol.proofs.Names.{◌≡◌, ◌↔◌, ℕ, ◌<◌, List, Opt
 use Rattle.dm_symbol.proofs.Names.{ContentView, Says, IsRefused, SymbolView, WordsView, data_of, ContentReadFault}
 use Rattle.dm_symbol.proofs.Names.{BlockReading, Dealing, sure_fault_count, first_data, readings_by, ContentReadingView}
 use Rattle.dm_symbol.proofs.Names.{ContentReadResult, ReadsContent, content_reading_of, IsIdentifier}
-use Rattle.dm_symbol.proofs.Names.{IsRestored}
+use Rattle.dm_symbol.proofs.Names.{◌≤◌, AreLost, IsRestored}
 use Rattle.dm_symbol.specs.ContentReading.{IsContentRead}
 use Rattle.dm_words.specs.declared.contents.fault.ContentFault.{ContentFault}
 use Rattle.dm_symbol.specs.declared.contents.ContentReadFault.TheVariants as fault
@@ -20,6 +20,12 @@ module _ (extent : Extent) (modules : SymbolView) (doubtful : Option SymbolView)
   pub content_border_result : (count : ℕ) → (limit < faults) × (count ≡ faults)
       → ContentReadResult extent modules doubtful limit (Err (fault.Border count))
   content_border_result count lost = ContentReadResult.border lost.0 (ap (λ n. Err (fault.Border n)) lost.1)
+
+  -- Where the words that the modules hold are lost, the first lost block is a right result.
+  pub lost_content_result : (held : List ℕ) (block : ℕ) → faults ≤ limit
+      → AreLost extent modules doubtful held block
+      → ContentReadResult extent modules doubtful limit (Err (fault.Block block))
+  lost_content_result held block few lost = ContentReadResult.block held block few lost refl
 
   module _ (w : WordsView) (dealing : Dealing) (blocks : List BlockReading) (count : ℕ)
       (r : IsRestored extent modules doubtful limit w dealing blocks count) where

@@ -61,6 +61,16 @@ impl<const ITEMS: usize, const MARKS: usize> Default for ContentReadingIn<ITEMS,
         ≡ content_reading_of (as_content []) 1 Standard [] 0 };
 
     fn default() -> Self {
+        ContentReadingIn::empty()
+    }
+}
+
+impl<const ITEMS: usize, const MARKS: usize> ContentReadingIn<ITEMS, MARKS> {
+    /// Gives the reading of an empty content.
+    fn empty() -> Self
+        ensures { content_reading_in result
+            ≡ content_reading_of (as_content []) 1 Dealing.Standard [] 0 }
+    {
         ContentReadingIn {
             content: ContentIn::new(),
             identifier: 1,

@@ -225,6 +225,12 @@ mod_twice c s even p =
     regroup : (q h m : ℕ) → q * (2 * h) + m ≡ 2 * (q * h) + m
     regroup q h m = omega arith
 
+-- In an even row between the first and the last one the left column is dark.
+dark_left : (p s t : Bool) → p ≡ ((p || false || false || s) && cond (p || false) true (cond false t false))
+dark_left true s t = refl
+dark_left false true t = refl
+dark_left false false t = refl
+
 module _ (size : SizeEntry) (last left both even all : ℕ) (b : AreBorders size last left both even all)
     (inner : ℕ) where
   abbrev d : ℕ
@@ -271,6 +277,18 @@ module _ (size : SizeEntry) (last left both even all : ℕ) (b : AreBorders size
       ∙ ap (λ (t : Bool). (p || nat_eq inner (d + 1) || t || s)
       && cond (p || nat_eq inner (d + 1)) true (cond t (nat_eq (c % (e + 2) % 2) 0) (nat_eq (inner % 2) 1)))
       (sym (eq-eqb inner 0 z))
+
+  -- An even row between them has those of the left columns.
+  pub dark_in_even : inner ≢ last → inner ≢ 0 → inner % 2 ≢ 1 → (c : ℕ) → c < size.columns →
+      is_dark_bit left c ≡ (is_on_edge size.region_rows size.region_columns inner (c % (size.region_columns + 2))
+      && edge_is_dark size.region_rows inner (c % (size.region_columns + 2)))
+  dark_in_even nl nz odd c l =
+      rw (
+        ne_eqb inner (d + 1) (λ y. nl (y ∙ sym b.last_row)),
+        ne_eqb inner 0 nz,
+        ne_eqb (inner % 2) 1 odd,
+        b.left_columns c l,
+      ) (dark_left (nat_eq (c % (e + 2)) 0) (nat_eq (c % (e + 2)) (e + 1)) (nat_eq (c % (e + 2) % 2) 0))
 
 -- ---- the rows between the first and the last one of a region
 

@@ -9,7 +9,9 @@ ghost use Rattle.dm_symbol.specs.inner.Marks.{marked_in};
 ghost use Rattle.dm_symbol.specs.ContentReading.{ContentReadResult};
 ghost use Rattle.dm_symbol.specs.Restored.{IsRestored};
 ghost use Rattle.dm_symbol.specs.SymbolBlocks.{AreOfSize};
-ghost use Rattle.dm_symbol.specs.SymbolReading.{AreBlocksNear, IsFirstLost, block_readings};
+ghost use Rattle.dm_symbol.specs.SymbolReading.{AreBlocksNear, AreLost, AreRestored, IsFirstLost};
+ghost use Rattle.dm_symbol.specs.SymbolReading.{block_readings, readings_by};
+ghost use Rattle.dm_symbol.specs.inner.Restoring.{AreHeldBy};
 
 use crate::contents::ContentReadFault;
 use crate::symbol::correction::{mark, restore_block};
@@ -120,19 +122,45 @@ pub(crate) fn restore(
         return Err(ContentReadFault::Border(border_faults));
     }
     *faults = border_faults;
-    *dealing = Dealing::Standard;
     let size = symbol.size();
     let words = &mut room[..usize::from(size.data_count() + size.check_count())];
     lift_to(symbol, words);
+    match restore_words(symbol, doubtful, extent, words, dealing, blocks) {
+        Ok(()) => Ok(()),
+        Err(lost) => Err(ContentReadFault::Block(lost)),
+    }
+}
+
+/// Restores the codewords that a symbol holds, and leaves in `dealing` the one by which that is, and in `blocks` what
+/// became of each block; or gives the first block that is lost.
+fn restore_words(
+    symbol: &BorrowedSymbol,
+    doubtful: Option<&BorrowedSymbol>,
+    extent: Extent,
+    words: &mut [u8],
+    dealing: &mut Dealing,
+    blocks: &mut ArrayVec<BlockReading, MOST_BLOCKS>,
+) -> Result<(), u8>
+    requires doubtful { IfSome doubtful (λ doubtful. doubtful.now.size ≡ symbol.now.size) }
+    requires held { AreHeldBy symbol.now words.old }
+    ensures restored { OnOk result (AreRestored extent symbol.now
+        (option_map (λ d. d.now) doubtful.entry) dealing.new words.old words.new
+        × (blocks.new.items ≡ readings_by dealing.new symbol.now.size
+        (option_map (λ d. d.now) doubtful.entry) words.old words.new)) }
+    ensures lost { IfErr result (λ b. AreLost extent symbol.now
+        (option_map (λ d. d.now) doubtful.entry) words.old b) }
+{
+    *dealing = Dealing::Standard;
+    let size = symbol.size();
     let Err(first) = restore_blocks(size, words, Dealing::Standard, doubtful, blocks) else {
         return Ok(());
     };
     match extent {
-        Extent::Usual => return Err(ContentReadFault::Block(first)),
+        Extent::Usual => return Err(first),
         Extent::Wide => {}
     }
     if !restore_restarted(symbol, doubtful, words, blocks) {
-        return Err(ContentReadFault::Block(first));
+        return Err(first);
     }
     *dealing = Dealing::Restarted;
     Ok(())

@@ -21,3 +21,6 @@ returns-then-are_zero-clause-itself g c =
           (zeros_of_zeros k (take k r) (zeros_of_first k r (c.are_zero.ensures.0 c.if-are_zero.true))),
       λ h. refl,
     )
+
+pub mend-requires-clause-rest : goal.mend-requires-clause-rest
+mend-requires-clause-rest g c = c.remainder-rest.ensures.same

@@ -16,3 +16,6 @@ returns-clause-coefficient c =
     ∙ c.requires.back.each (n - j) (omega arith))
     (λ j q. c.requires.back.zeros (first + j) (omega arith))
     (λ i q. c.requires.zeros i (omega arith)))
+
+pub returns-clause-products : goal.returns-clause-products
+returns-clause-products c = omega arith

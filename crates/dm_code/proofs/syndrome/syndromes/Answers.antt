@@ -24,3 +24,8 @@ loop-i-preserved c =
 
 pub returns-clause-bytes : goal.returns-clause-bytes
 returns-clause-bytes c = subst Bytes (sym c.loop-i.invariant) (syndromes_bytes c.args.word.now (c.loop-i.i - 1))
+
+pub returns-clause-values : goal.returns-clause-values
+returns-clause-values c =
+    let all : c.loop-i.i - 1 ≡ c.args.k = omega arith in
+    c.loop-i.invariant ∙ ap (syndromes_of c.args.word.now) all

@@ -31,3 +31,8 @@ loop-group-preserved c =
     all ∙ ap (λ t. t ++ c.values_from_root.result) c.loop-group.invariant ∙ ap (λ t. syndromes_of w done ++ t) of
     ∙ more_syndromes w done 16 ∙ ap (syndromes_of w) (let e : done + 16 ≡ 16 * (c.loop-group.group + 1) = omega arith in
     e)
+
+pub returns : goal.returns
+returns c =
+    let all : c.loop-group.group ≡ c.args.groups = omega arith in
+    c.loop-group.invariant ∙ ap (λ n. syndromes_of c.args.word.now (16 * n)) all

@@ -29,3 +29,6 @@ pub returns-else-form-clause-plain : goal.returns-else-form-clause-plain
 returns-else-form-clause-plain c =
     message_plain c.args.profile c.args.items.now (take c.form_of-form.result.length c.write_ascii.new.words)
     (returns-else-form-clause-form c) (omega (arith, c.requires.most, length-take {A = ℕ}))
+
+pub returns-then-not-surely_fits-clause-same : goal.returns-then-not-surely_fits-clause-same
+returns-then-not-surely_fits-clause-same c = c.write_counted.ensures.same

@@ -1,5 +1,5 @@
 use Rattle.dm_words.proofs.Names.{◌≡◌, ◌∙◌, ℕ, arith, ap, length, length-take, map, sym, subst, take, ascii, byte_of}
-use Rattle.dm_words.proofs.Names.{one_segment}
+use Rattle.dm_words.proofs.Names.{one_segment, refl}
 use Rattle.dm_words.proofs.NormalPlain.{message_plain}
 use Rattle.dm_words.proofs.normal_form.write_counted.Goals as goal
 
@@ -26,3 +26,6 @@ pub returns-else-form-clause-plain : goal.returns-else-form-clause-plain
 returns-else-form-clause-plain c =
     message_plain c.args.profile c.args.items.now (take c.form_of-form.result.length c.write_ascii-same.new.words)
     (returns-else-form-clause-form c) (omega (arith, c.requires.most, length-take {A = ℕ}))
+
+pub returns-then-form-words-clause-same : goal.returns-then-form-words-clause-same
+returns-then-form-words-clause-same c = refl

@@ -1,3 +1,4 @@
+use Rattle.dm_words.proofs.Names.{refl}
 use Rattle.dm_words.proofs.Names.{◌≡◌, ◌∙◌, ◌≤◌, ℕ, ap, take, take_at, length, length-take, arith, as_content, padded}
 use borrow.Rule.Slice.PartMut.{post_of}
 use Rattle.dm_words.proofs.ContentBounds.{no_fewer_words}
@@ -27,3 +28,6 @@ returns-in-Some-clause-smallest c =
     c.least_way-found.ensures.least)
     (record { taken = (size.size, size.chosen); smallest = size.smallest; narrowest = size.narrowest })
     long put fits c.write_plainest-held.ensures.written c.write_plainest-held.ensures.plainest
+
+pub returns-in-None-clause-same : goal.returns-in-None-clause-same
+returns-in-None-clause-same c = refl

@@ -1,8 +1,17 @@
 use Rattle.ecc200_calls.proofs.Names.{◌≡◌, ◌≢◌, ◌*◌, ◌∙◌, ℕ, true, List, [], ◌∷◌, Some, inl, inr, length, refl, sym, ap}
-use Rattle.ecc200_calls.proofs.Names.{arith, false≢true, area, entry_with, nat_tests}
+use Rattle.ecc200_calls.proofs.Names.{arith, false≢true, area, entry_with, nat_tests, IsGivenFault}
 use Rattle.std.specs.Bool.{◌==◌}
 use Rattle.ecc200_calls.proofs.OfGiven.{doubt_fault, sides_found}
 use Rattle.ecc200_calls.proofs.given.check_given.Goals as goal
+
+pub returns-then-doubtful-count-clause-known : goal.returns-then-doubtful-count-clause-known
+returns-then-doubtful-count-clause-known c = tt
+
+pub returns-then-modules-count-clause-fault : goal.returns-then-modules-count-clause-fault
+returns-then-modules-count-clause-fault c =
+    let count : c.from.result * c.from-2.result ≡ c.args.rows * c.args.columns =
+    rw (c.from.ensures, c.from-2.ensures) refl in
+    IsGivenFault.wrong_count (λ same. c.if-modules-count.true (same ∙ sym count)) c.shape.ensures
 
 pub returns-then-doubtful-count-clause-fault : goal.returns-then-doubtful-count-clause-fault
 returns-then-doubtful-count-clause-fault c =

@@ -55,3 +55,6 @@ returns-then-length-words-clause-written c =
       marks = c.requires.in_order;
     })
     (omega (arith, ap length (form_is c.args.head items marks), length-append first (ascii_with_marks 0 items marks))))
+
+pub returns-in-None-clause-ascii : goal.returns-in-None-clause-ascii
+returns-in-None-clause-ascii c room = absurd (omega (arith, room, length-append {A = ℕ}))

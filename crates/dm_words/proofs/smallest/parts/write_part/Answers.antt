@@ -1,3 +1,4 @@
+use Rattle.std.proofs.lemmas.Bool.{false≢true}
 use Rattle.dm_words.proofs.Names.{◌≡◌, ◌∙◌, ℕ, ◌+◌, ◌-◌, ◌++◌, List, length, drop, get_or, ap, sym, subst, arith}
 use Rattle.dm_words.proofs.Names.{false, rules, take, take_rest, drop_all, All-drop, All-take, Usual, Item}
 use Rattle.dm_words.proofs.Names.{Fnc1, byte_of, IsItem, digit_pair, has_fnc1, parts_cost, unit_words, nat_tests}
@@ -176,3 +177,6 @@ returns-in-Rest-clause-sign c =
     (drop (length c.args.items.now) c.args.items.now) w.part
     (λ e. (let f = sym c.in-Rest.is ∙ c.begin.ensures ∙ e in cc))
     (λ e. (let f = sym c.in-Rest.is ∙ c.begin.ensures ∙ e in cc)) w.whole
+
+pub returns-in-Edifact-clause-usual : goal.returns-in-Edifact-clause-usual
+returns-in-Edifact-clause-usual c = λ usual. absurd (false≢true usual)
