@@ -3,7 +3,7 @@ import json
 import os
 
 from tests import corpus
-from tests.python.common import SAMPLER, VERSION, WORDS, PackageCase, ecc, environment, marks, run
+from tests.python.common import PYTHON, SAMPLER, VERSION, WORDS, PackageCase, ecc, environment, marks, run
 from tests.support import places
 
 import ecc200
@@ -289,8 +289,9 @@ class Surface(PackageCase):
                 self.says(f"zint's {part}", ecc("read", path), output=said + "\n")
                 self.says(f"zint's {part}, --usual", ecc("read --usual", path), 1, "", [part])
         places.wrote(b"\x89PNG\r\n\x1a\nrubbish", self.room, "broken.png")
+        has_pillow = not run([PYTHON, "-c", "import PIL"])[0]
         self.says("a broken picture", ecc("read", os.path.join(self.room, "broken.png")), 2, "",
-                  ["broken.png", "can't be opened" if pillow else "Pillow"])
+                  ["broken.png", "can't be opened" if has_pillow else "Pillow"])
         self.says("a folder that isn't there", ecc("write A -o", os.path.join(self.room, "none", "a.png")), 2, "",
                   ["there is no folder"])
 

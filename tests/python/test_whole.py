@@ -45,6 +45,7 @@ sys.exit(main(["write", "-o", *sys.argv[1:]]))
 class Whole(PackageCase):
     def test_captions(self):
         """Of letters that go below the line nothing is cut off: a page that is longer has no more of them."""
+        self.needed("PIL.Image", "Pillow", "captions as they are drawn")
         for kind, program in (("svg", "rsvg-convert"), ("pdf", "pdftoppm")):
             if not self.has(program, f"captions of {kind} as they are drawn"):
                 continue
