@@ -92,11 +92,27 @@ static void keep_border(struct border *out, int room, int *count, struct border 
     out[at] = border;
 }
 
+/* How many modules of a strip are right at least, if it alternates. */
+static int least_alternating(int count) {
+    return (int)ceil(LEAST_BROKEN * count);
+}
+
 /* Whether one of two strips may alternate, in some border. */
 static bool may_alternate(struct strip one, struct strip other) {
     int least = one.alternating < other.alternating ? one.alternating : other.alternating,
         most = one.alternating > other.alternating ? one.alternating : other.alternating;
-    return most >= LEAST_BROKEN * one.count || one.count - least >= LEAST_BROKEN * one.count;
+    return most >= least_alternating(one.count) || one.count - least >= least_alternating(one.count);
+}
+
+/* Whether one of two strips of a row and another may alternate, where they begin at each of so many places. That is the
+ * same whether they begin with a dark module or a light one, and looked at many places at a time. */
+static void find_alternating(const int16_t *restrict row, const int16_t *restrict other, int wide, int places,
+                             uint8_t *restrict out) {
+    int16_t least = (int16_t)least_alternating(wide), rest = (int16_t)(wide - least);
+    for (int x = 0; x < places; x++) {
+        int16_t one = (int16_t)(row[x + wide] - row[x]), two = (int16_t)(other[x + wide] - other[x]);
+        out[x] = (one >= least) | (two >= least) | (one <= rest) | (two <= rest);
+    }
 }
 
 /* Keeps the borders of so many columns and rows that begin at a module. */
@@ -105,8 +121,6 @@ static void look_at(const struct both *both, int x, int y, struct extent box, st
     struct strip strips[STRIPS];
     strips[TOP] = strip_of(&both->rows, y, x, box.wide);
     strips[BELOW] = strip_of(&both->rows, y + box.high - 1, x, box.wide);
-    if (!may_alternate(strips[TOP], strips[BELOW]))
-        return;
     strips[LEFT] = strip_of(&both->columns, x, y, box.high);
     strips[RIGHT] = strip_of(&both->columns, x + box.wide - 1, y, box.high);
     if (!may_alternate(strips[LEFT], strips[RIGHT]))
@@ -133,10 +147,18 @@ int find_borders(const struct field *field, const struct layouts *shapes, struct
     if (both == NULL)
         return -1;
     sum_up(field, both);
-    for (int k = 0; k < shapes->count; k++)
-        for (int y = 0; y + shapes->shapes[k].high <= field->high; y++)
-            for (int x = 0; x + shapes->shapes[k].wide <= field->wide; x++)
-                look_at(both, x, y, shapes->shapes[k], out, room, &count);
+    for (int k = 0; k < shapes->count; k++) {
+        struct extent shape = shapes->shapes[k];
+        int places = field->wide - shape.wide + 1;
+        uint8_t alternates[MOST_FIELD];
+        for (int y = 0; y + shape.high <= field->high && places > 0; y++) {
+            find_alternating(both->rows.alternating[y], both->rows.alternating[y + shape.high - 1], shape.wide, places,
+                             alternates);
+            for (int x = 0; x < places; x++)
+                if (alternates[x])
+                    look_at(both, x, y, shape, out, room, &count);
+        }
+    }
     free(both);
     return count;
 }

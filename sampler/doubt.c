@@ -25,8 +25,8 @@ static void look_at_module(const struct plane *picture, bool is_inverted, const 
     out->least[at] = (uint8_t)least;
 }
 
-static void look(const struct plane *picture, bool is_inverted, const struct layout *layout, const struct warp *warp,
-                 struct looks *out) {
+void look_at_modules(const struct plane *picture, bool is_inverted, const struct layout *layout,
+                     const struct warp *warp, struct looks *out) {
     out->extent = (struct extent){layout->extent.wide + 2 * RING, layout->extent.high + 2 * RING};
     for (int y = 0, at = 0; y < out->extent.high; y++)
         for (int x = 0; x < out->extent.wide; x++, at++)
@@ -174,15 +174,13 @@ static void mark_flat(struct looks *looks, const struct layout *layout, const st
     }
 }
 
-int find_doubt(const struct plane *picture, bool is_inverted, const struct layout *layout, const struct warp *warp,
-               int beside, struct looks *room, uint8_t *doubtful) {
+int find_doubt(struct looks *looks, const struct layout *layout, int beside, uint8_t *doubtful) {
     struct levels levels;
     int wide = layout->extent.wide, count = 0;
-    look(picture, is_inverted, layout, warp, room);
     for (int k = 0; k < wide * layout->extent.high; k++)
-        doubtful[k] |= room->is_outside[(k / wide + RING) * room->extent.wide + k % wide + RING];
-    if (find_levels(room, layout, &levels))
-        mark_flat(room, layout, &levels, beside, doubtful);
+        doubtful[k] |= looks->is_outside[(k / wide + RING) * looks->extent.wide + k % wide + RING];
+    if (find_levels(looks, layout, &levels))
+        mark_flat(looks, layout, &levels, beside, doubtful);
     for (int k = 0; k < wide * layout->extent.high; k++)
         count += doubtful[k];
     return count;

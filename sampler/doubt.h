@@ -19,10 +19,12 @@ struct looks {
     int pending[MOST_LOOKED_AT];
 };
 
-/* Writes 1 for each module of a symbol that is doubtful, row by row, and returns how many are 1 then. `is_inverted`:
- * whether the symbol is light on dark in the picture. `beside`: 1 if the modules beside a damaged place, which its edge
- * may cut, are doubtful too, else 0. */
-int find_doubt(const struct plane *picture, bool is_inverted, const struct layout *layout, const struct warp *warp,
-               int beside, struct looks *room, uint8_t *doubtful);
+/* Looks at the modules of a symbol and around it. `is_inverted`: whether it is light on dark in the picture. */
+void look_at_modules(const struct plane *picture, bool is_inverted, const struct layout *layout,
+                     const struct warp *warp, struct looks *out);
+
+/* Writes 1 for each module of a symbol that is doubtful, row by row, and returns how many are 1 then. `beside`: 1 if
+ * the modules beside a damaged place, which its edge may cut, are doubtful too, else 0. */
+int find_doubt(struct looks *looks, const struct layout *layout, int beside, uint8_t *doubtful);
 
 #endif

@@ -6,18 +6,20 @@
 #include "witness.h"
 
 static const struct rule RULES[] = {
-    {0.00, 0.00, false, 0, false},  {0.12, 0.00, true, 0, false},   {0.00, 0.00, true, 0, false},
-    {0.20, 0.00, true, 0, false},   {0.12, 0.00, false, 0, false},  {0.30, 0.00, true, 0, false},
-    {0.12, 0.08, true, 0, false},   {0.12, -0.08, true, 0, false},  {0.00, 0.10, false, 0, false},
-    {0.00, -0.10, false, 0, false}, {0.20, 0.15, true, 0, false},   {0.20, -0.15, true, 0, false},
-    {0.00, 0.20, false, 0, false},  {0.00, -0.20, false, 0, false}, {0.12, 0.25, true, 0, false},
-    {0.12, -0.25, true, 0, false},  {0.00, 0.00, false, 3, false},  {0.12, 0.00, false, 2, false},
-    {0.12, 0.00, false, 4, false},  {0.12, 0.00, false, 0, true}};
+    {AS_SEEN, 0.00, false, 0, false},   {SLIGHTLY, 0.00, true, 0, false},  {AS_SEEN, 0.00, true, 0, false},
+    {CLEARLY, 0.00, true, 0, false},    {SLIGHTLY, 0.00, false, 0, false}, {STRONGLY, 0.00, true, 0, false},
+    {SLIGHTLY, 0.08, true, 0, false},   {SLIGHTLY, -0.08, true, 0, false}, {AS_SEEN, 0.10, false, 0, false},
+    {AS_SEEN, -0.10, false, 0, false},  {CLEARLY, 0.15, true, 0, false},   {CLEARLY, -0.15, true, 0, false},
+    {AS_SEEN, 0.20, false, 0, false},   {AS_SEEN, -0.20, false, 0, false}, {SLIGHTLY, 0.25, true, 0, false},
+    {SLIGHTLY, -0.25, true, 0, false},  {AS_SEEN, 0.00, false, 3, false},  {SLIGHTLY, 0.00, false, 2, false},
+    {SLIGHTLY, 0.00, false, 4, false},  {SLIGHTLY, 0.00, false, 0, true}};
 /* Those by which modules are told apart where some are doubtful. */
-static const struct rule DOUBT_RULES[] = {{0.00, 0.00, false, 0, false}, {0.12, 0.00, true, 0, false},
-                                          {0.00, 0.00, false, 3, false}, {0.12, 0.00, false, 0, true}};
+static const struct rule DOUBT_RULES[] = {{AS_SEEN, 0.00, false, 0, false},
+                                          {SLIGHTLY, 0.00, true, 0, false},
+                                          {AS_SEEN, 0.00, false, 3, false},
+                                          {SLIGHTLY, 0.00, false, 0, true}};
 /* That of the first guess where light has run from module to module. */
-static const struct rule SMEAR_RULE = {0.12, 0.00, true, 0, false};
+static const struct rule SMEAR_RULE = {SLIGHTLY, 0.00, true, 0, false};
 enum {
     RULE_COUNT = sizeof RULES / sizeof *RULES,
     DOUBT_RULE_COUNT = sizeof DOUBT_RULES / sizeof *DOUBT_RULES
@@ -36,12 +38,16 @@ enum { WORK_OF_SAMPLING = 160, WORK_OF_A_RULE = 60, WORK_OF_READING = 20, WORK_O
 
 /* How many wrong border modules are taken at most, where each block leaves a correction unused: as many as a torn
  * corner may take. */
-static int widest_limit(const ecc200_sample *trial) {
-    return 5 * (trial->rows + trial->columns) / 8;
+static int widest_limit(struct extent extent) {
+    return 5 * (extent.wide + extent.high) / 8;
 }
 
-static int usual_limit(const ecc200_sample *trial) {
-    return ecc200_usual_limit(trial->rows, trial->columns);
+static int usual_limit(struct extent extent) {
+    return ecc200_usual_limit((uint16_t)extent.high, (uint16_t)extent.wide);
+}
+
+static int usual_limit_of(const ecc200_sample *trial) {
+    return usual_limit((struct extent){trial->columns, trial->rows});
 }
 
 /* Reads the candidate. `doubtful`: which of its modules are, or NULL if none is. */
@@ -49,8 +55,8 @@ static uint16_t read(ecc200_sample *trial, const uint8_t *doubtful, int limit) {
     size_t count = (size_t)trial->rows * (size_t)trial->columns;
     const ecc200_scan scan = {trial->rows, trial->columns, ECC200_GIVEN_LIMIT, (uint16_t)limit, ECC200_WIDE};
     uint16_t code = ecc200_read(trial->modules, count, doubtful, doubtful != NULL ? count : 0, &scan, &trial->reading);
-    bool is_usual = code == ECC200_OK && trial->reading.border_faults <= usual_limit(trial);
-    trial->border_limit = (uint16_t)(is_usual ? usual_limit(trial) : limit);
+    bool is_usual = code == ECC200_OK && trial->reading.border_faults <= usual_limit_of(trial);
+    trial->border_limit = (uint16_t)(is_usual ? usual_limit_of(trial) : limit);
     return code;
 }
 
@@ -66,7 +72,7 @@ static int cost_of(const ecc200_reading *reading) {
  * unused at least. */
 static bool leaves_margin(const ecc200_sample *trial, int margin) {
     const ecc200_reading *reading = &trial->reading;
-    margin = margin > 0 || reading->border_faults <= usual_limit(trial) ? margin : 1;
+    margin = margin > 0 || reading->border_faults <= usual_limit_of(trial) ? margin : 1;
     for (int block = 0; block < reading->block_count; block++)
         if (reading->left[block] < CHECKS_OF_A_CORRECTION * margin)
             return false;
@@ -138,8 +144,7 @@ static void hand_on_untrusted(struct trials *trials) {
 /* A grid whose border the reader doesn't take is no symbol, but whatever else has a solid elbow. */
 static void hand_on_refused(struct trials *trials) {
     ecc200_sample *trial = trials->judge->trial;
-    if (wants_unread(trials) && trial->reading.fault.code != ECC200_BORDER &&
-        read(trial, NULL, usual_limit(trial)) != ECC200_BORDER)
+    if (wants_unread(trials) && read(trial, NULL, usual_limit_of(trial)) != ECC200_BORDER)
         hand_on(trials, ECC200_SAMPLE_REFUSED);
 }
 
@@ -169,23 +174,27 @@ static bool try_rules(struct trials *trials, const struct brightnesses *brightne
     struct judge *judge = trials->judge;
     ecc200_sample *trial = judge->trial;
     const struct layout *layout = trials->layout;
+    int limit = widest_limit(layout->extent);
+    begin_telling(brightnesses, layout, layout->colour, &judge->telling);
     for (int k = 0; k < count && trials->best_cost != 0; k++) {
         spend(judge, layout, WORK_OF_A_RULE + WORK_OF_READING);
-        if (!tell_apart(brightnesses, layout->colour, RULES[k], judge->seen))
+        enum told told = tell_apart(&judge->telling, RULES[k], limit, judge->seen);
+        if (told == NO_CONTRAST)
             return k > 0;
+        if (told == NO_BORDER)
+            continue;
         take_seen(trials, layout->is_mirrored);
-        if (read(trial, NULL, widest_limit(trial)) == ECC200_OK) {
+        if (read(trial, NULL, limit) == ECC200_OK) {
             keep_if_trusted(trials);
             continue;
         }
-        bool has_border = trial->reading.fault.code != ECC200_BORDER;
-        trials->has_border |= has_border;
+        trials->has_border = true;
         if (RULES[k].around == 0)
             hand_on_refused(trials);
-        if (!has_border || !is_square(layout->extent))
+        if (!is_square(layout->extent))
             continue;
         take_seen(trials, true);
-        if (read(trial, NULL, widest_limit(trial)) == ECC200_OK)
+        if (read(trial, NULL, limit) == ECC200_OK)
             keep_if_trusted(trials);
     }
     return true;
@@ -231,7 +240,7 @@ static bool try_doubtful(struct trials *trials, bool is_mirrored) {
         mirror_modules(judge->doubtful, extent, trial->doubtful);
     else
         memcpy(trial->doubtful, judge->doubtful, count);
-    if (read(trial, trial->doubtful, usual_limit(trial)) != ECC200_OK)
+    if (read(trial, trial->doubtful, usual_limit_of(trial)) != ECC200_OK)
         return true;
     if (!leaves_evidence(trial, judge->margin))
         hand_on_untrusted(trials);
@@ -250,9 +259,10 @@ static bool try_doubt(struct trials *trials, const struct brightnesses *brightne
     bool is_one = true;
     for (int k = 0; k < layout->extent.wide * layout->extent.high; k++)
         colour[k] = judge->doubtful[k] ? UNKNOWN : layout->colour[k];
+    begin_telling(brightnesses, layout, colour, &judge->telling);
     for (int k = 0; k < DOUBT_RULE_COUNT && is_one; k++) {
         spend(judge, layout, WORK_OF_A_RULE + 2 * WORK_OF_READING);
-        if (!tell_apart(brightnesses, colour, DOUBT_RULES[k], judge->seen))
+        if (tell_apart(&judge->telling, DOUBT_RULES[k], usual_limit(layout->extent), judge->seen) != TOLD_APART)
             continue;
         is_one = try_doubtful(trials, layout->is_mirrored);
         if (is_one && is_square(layout->extent))
@@ -310,7 +320,7 @@ static void try_bent(struct trials *trials, struct lie *lie, struct brightnesses
 static void try_undone(struct trials *trials, bool is_mirrored) {
     ecc200_sample *trial = trials->judge->trial;
     take_seen(trials, is_mirrored);
-    if (read(trial, NULL, usual_limit(trial)) != ECC200_OK)
+    if (read(trial, NULL, usual_limit_of(trial)) != ECC200_OK)
         return;
     if (leaves_checks(trial, trials->judge->margin))
         keep(trials);
@@ -318,33 +328,37 @@ static void try_undone(struct trials *trials, bool is_mirrored) {
         hand_on_untrusted(trials);
 }
 
-/* Finds what the picture shows to be damaged, and what the one that it was made of does, whose damage may look sound in
- * it. Returns how many modules are doubtful. */
-static int find_damage(struct judge *judge, const struct layout *layout, const struct warp *warp, int beside) {
+/* Looks at what the picture shows to be damaged, and at what the one that it was made of does, whose damage may look
+ * sound in it. */
+static void look_for_damage(struct judge *judge, const struct layout *layout, const struct warp *warp) {
     struct warp of_original = *warp;
-    memset(judge->doubtful, 0, sizeof judge->doubtful);
-    spend(judge, layout, WORK_OF_LOOKING);
-    int count = find_doubt(judge->picture, false, layout, warp, beside, &judge->looks, judge->doubtful);
+    look_at_modules(judge->picture, false, layout, warp, &judge->looks[0]);
     if (judge->original == NULL)
-        return count;
+        return;
     for (int k = 0; k < 2 * 3; k++)
         of_original.to_picture.m[k / 3][k % 3] *= judge->scale / judge->scale_of_original;
-    spend(judge, layout, WORK_OF_LOOKING);
-    return find_doubt(judge->original, judge->is_inverted, layout, &of_original, beside, &judge->looks,
-                      judge->doubtful);
+    look_at_modules(judge->original, judge->is_inverted, layout, &of_original, &judge->looks[1]);
+}
+
+/* Returns how many modules are doubtful by what was looked at. */
+static int find_damage(struct judge *judge, const struct layout *layout, int beside) {
+    int count = 0;
+    memset(judge->doubtful, 0, sizeof judge->doubtful);
+    for (int k = 0; k <= (judge->original != NULL); k++) {
+        spend(judge, layout, WORK_OF_LOOKING);
+        count = find_doubt(&judge->looks[k], layout, beside, judge->doubtful);
+    }
+    return count;
 }
 
 /* Tries the placement as it is once more, without what the picture shows to be damaged: first with what its edges cut,
  * and then without that, too. */
-static void try_known_damage(struct trials *trials, struct lie *lie, struct brightnesses *brightnesses) {
+static void try_known_damage(struct trials *trials, const struct brightnesses *brightnesses) {
     struct judge *judge = trials->judge;
-    const struct layout *layout = trials->layout;
-    *lie = (struct lie){.region = layout->extent, .warps = {*trials->warp}};
+    look_for_damage(judge, trials->layout, trials->warp);
     for (int beside = 0; beside <= 1 && trials->best_cost < 0 && !limit_reached(judge->limit); beside++) {
-        if (find_damage(judge, layout, trials->warp, beside) == 0)
+        if (find_damage(judge, trials->layout, beside) == 0)
             return;
-        if (beside == 0)
-            sample_modules(judge->picture, layout, lie, brightnesses);
         if (!try_doubt(trials, brightnesses))
             trials->best_cost = -1;
     }
@@ -381,16 +395,16 @@ bool judge_placement(struct judge *judge, const struct placement *placement, ecc
     if (was_tried(&judge->tried, &smeared.at))
         return false;
     struct trials trials = {judge, layout, &warp, out, -1, share, false};
-    struct brightnesses brightnesses;
+    struct brightnesses brightnesses, otherwise;
     struct lie lie = {.region = layout->extent, .warps = {warp}};
     spend(judge, layout, WORK_OF_SAMPLING);
     sample_modules(judge->picture, layout, &lie, &brightnesses);
     if (!try_rules(&trials, &brightnesses, RULE_COUNT))
         return false;
-    try_regions(&trials, &lie, &brightnesses);
-    try_bent(&trials, &lie, &brightnesses);
+    try_regions(&trials, &lie, &otherwise);
+    try_bent(&trials, &lie, &otherwise);
     if (trials.best_cost < 0 && !judge->is_thick)
-        try_known_damage(&trials, &lie, &brightnesses);
+        try_known_damage(&trials, &brightnesses);
     if (trials.best_cost < 0)
         keep_for_later(judge, &smeared);
     if (trials.best_cost < 0 && trials.has_border)
@@ -423,9 +437,10 @@ bool judge_modules(struct judge *judge, const struct brightnesses *brightnesses,
     if (layout == NULL || shorter_side(extent) < judge->least_side || !through(modules, corners, &warp.to_picture))
         return false;
     struct trials trials = {judge, layout, &warp, out, -1, 0, false};
+    begin_telling(brightnesses, layout, layout->colour, &judge->telling);
     for (int k = 0; k < RULE_COUNT && trials.best_cost != 0 && !limit_reached(judge->limit); k++) {
         spend(judge, layout, WORK_OF_A_RULE + 2 * WORK_OF_READING);
-        if (!tell_apart(brightnesses, layout->colour, RULES[k], judge->seen))
+        if (tell_apart(&judge->telling, RULES[k], usual_limit(extent), judge->seen) != TOLD_APART)
             continue;
         try_undone(&trials, layout->is_mirrored);
         if (is_square(extent))
@@ -456,7 +471,8 @@ bool judge_smeared(struct judge *judge, const struct smeared *smeared, ecc200_sa
     spend(judge, layout, WORK_OF_SAMPLING + WORK_OF_A_RULE + 2 * WORK_OF_READING);
     limit_spend(judge->limit, work_of_smear(smeared->at.extent));
     sample_modules(judge->picture, layout, &lie, &brightnesses);
-    if (!tell_apart(&brightnesses, layout->colour, SMEAR_RULE, judge->seen) ||
+    begin_telling(&brightnesses, layout, layout->colour, &judge->telling);
+    if (tell_apart(&judge->telling, SMEAR_RULE, layout->border_count, judge->seen) != TOLD_APART ||
         !undo_smear(judge->picture, layout, &smeared->warp, &judge->smear, judge->seen))
         return false;
     try_undone(&trials, layout->is_mirrored);

@@ -24,7 +24,8 @@ struct judge {
     ecc200_sample *trial;                   /* room for a candidate */
     uint8_t seen[MOST_MODULES];             /* its modules as the picture shows them, in a mirror perhaps */
     uint8_t doubtful[MOST_MODULES];         /* those of them that tell nothing, while these are given to the reader */
-    struct looks looks;
+    struct telling telling;
+    struct looks looks[2];                  /* at the picture, and at what it was made of */
     struct smear smear;
     struct unread unread;                   /* those that have a border and aren't read */
     struct tried_places tried;

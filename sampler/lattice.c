@@ -38,14 +38,15 @@ static bool is_taken(const struct ground *ground, const struct warp *warp, struc
     return false;
 }
 
-/* The share of clear edges that lie on a lattice, in a part of it, of those of this contrast at least; 0 if there are
- * too few, or the part is somebody else's. */
+/* The share of clear edges that lie on a lattice, in a part of it, of those of this contrast and share of the mean at
+ * least; 0 if there are too few, or the part is somebody else's. */
 static double near_in(const struct ground *ground, struct layout *room, const struct lattice *lattice, struct part part,
-                      double least) {
+                      double least, double share, double *mean) {
     if (is_taken(ground, &lattice->warp, part))
         return 0;
     lay_out_places(room, part);
-    struct support support = support_of(ground->grey, room, &lattice->warp, least);
+    struct support support = support_of(ground->grey, room, &lattice->warp, least, share);
+    *mean = support.mean;
     return support.clear >= LEAST_CLEAR ? support.near : 0;
 }
 
@@ -71,9 +72,10 @@ static bool grow(const struct ground *ground, struct layout *room, double least,
                  struct lattice *lattice) {
     struct part before = lattice->part;
     bool grows = false;
+    double mean;
     for (int side = 0; side < SIDES_OF_A_PART; side++) {
         struct part strip = strip_beside(before, side);
-        fits[side] = fits[side] && near_in(ground, room, lattice, strip, least) >= LEAST_NEAR;
+        fits[side] = fits[side] && near_in(ground, room, lattice, strip, least, 0, &mean) >= LEAST_NEAR;
         if (fits[side])
             grows = true, lattice->part = both_of(lattice->part, strip);
     }
@@ -89,19 +91,17 @@ bool grow_lattice(const struct ground *ground, const struct homography *to_pictu
     const struct plane *grey = ground->grey;
     struct lattice lattice = {settled(grey, to_picture), {-FIRST_REACH, FIRST_REACH, -FIRST_REACH, FIRST_REACH}, 0};
     bool fits[SIDES_OF_A_PART] = {true, true, true, true};
-    lay_out_places(room, lattice.part);
-    double least = LEAST_SHARE * mean_contrast(grey, room, &lattice.warp);
-    lattice.near = near_in(ground, room, &lattice, lattice.part, least);
+    double mean = 0;
+    lattice.near = near_in(ground, room, &lattice, lattice.part, 0, LEAST_SHARE, &mean);
     if (lattice.near >= LEAST_UNFITTED) {
         refine(grey, room, lattice.part, STIFF, 3, 0, &lattice.warp);
-        least = LEAST_SHARE * mean_contrast(grey, room, &lattice.warp);
-        lattice.near = near_in(ground, room, &lattice, lattice.part, least);
+        lattice.near = near_in(ground, room, &lattice, lattice.part, 0, LEAST_SHARE, &mean);
     }
     *out = lattice;
     if (lattice.near < LEAST_FIRST)
         return false;
     lattice.warp.is_bent = true;
-    while (!limit_reached(limit) && has_room(lattice.part) && grow(ground, room, least, fits, &lattice)) {
+    while (!limit_reached(limit) && has_room(lattice.part) && grow(ground, room, LEAST_SHARE * mean, fits, &lattice)) {
         lay_out_places(room, lattice.part);
         limit_spend(limit, 2 * work_of_fitting(room)); /* the strips beside, and the bend */
         bend(grey, room, 1, &lattice.warp);

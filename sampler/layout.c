@@ -80,32 +80,42 @@ static ecc200_size size_of(struct extent shape, bool *is_mirrored) {
     return size;
 }
 
-static struct layout *make_layout(struct extent shape) {
+/* Takes what each module is, row by row. */
+static void take_kinds(const uint8_t *kinds, struct layout *layout) {
     static const uint8_t colours[] = {
         [ECC200_NO_MODULE] = UNKNOWN, [ECC200_BIT] = UNKNOWN,       [ECC200_BORDER_LIGHT] = LIGHT,
         [ECC200_BORDER_DARK] = DARK,  [ECC200_FIXED_LIGHT] = LIGHT, [ECC200_FIXED_DARK] = DARK};
+    for (int k = 0; k < layout->extent.wide * layout->extent.high; k++) {
+        layout->colour[k] = colours[kinds[k]];
+        if (kinds[k] == ECC200_BORDER_LIGHT || kinds[k] == ECC200_BORDER_DARK)
+            layout->border[layout->border_count++] = (uint16_t)k;
+    }
+}
+
+static struct layout *make_layout(struct extent shape) {
     struct layout *layout = calloc(1, sizeof *layout);
     ecc200_place_table *table = malloc(sizeof *table);
-    uint8_t *colour = malloc(MOST_MODULES);
+    uint8_t *kinds = malloc(2 * MOST_MODULES), *mirrored = kinds + MOST_MODULES;
     bool is_mirrored = false;
     ecc200_size size = size_of(shape, &is_mirrored);
-    if (layout != NULL && table != NULL && colour != NULL &&
+    if (layout != NULL && table != NULL && kinds != NULL &&
         ecc200_places(size.rows, size.columns, table) == ECC200_OK) {
         struct extent plain = {size.columns, size.rows}, region = {size.region_columns + 2, size.region_rows + 2};
         for (int k = 0; k < plain.wide * plain.high; k++)
-            colour[k] = layout->colour[k] = colours[table->places[k].kind];
+            kinds[k] = table->places[k].kind;
         if (is_mirrored)
-            mirror_modules(colour, plain, layout->colour);
+            mirror_modules(kinds, plain, mirrored);
         layout->extent = shape, layout->is_mirrored = is_mirrored;
         layout->region = is_mirrored ? (struct extent){region.high, region.wide} : region;
         layout->checks = size.check_codewords / size.blocks;
+        take_kinds(is_mirrored ? mirrored : kinds, layout);
         find_witnesses(layout);
     } else {
         free(layout);
         layout = NULL;
     }
     free(table);
-    free(colour);
+    free(kinds);
     return layout;
 }
 

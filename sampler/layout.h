@@ -13,7 +13,8 @@ enum {
     LIGHT = 0,
     DARK = 1,
     UNKNOWN = 2,
-    MOST_WITNESSES = 3072
+    MOST_WITNESSES = 3072,
+    MOST_BORDER = 3312 /* of 144 by 144 */
 };
 
 /* Modules each way: columns and rows. */
@@ -54,6 +55,8 @@ struct layout {
     int checks;                   /* check codewords of each block */
     bool is_mirrored;             /* whether only a mirror shows it so */
     uint8_t colour[MOST_MODULES]; /* LIGHT, DARK, UNKNOWN: row by row */
+    uint16_t border[MOST_BORDER]; /* which modules are the border's, with the alignment patterns */
+    int border_count;
     struct witness witnesses[MOST_WITNESSES];
     int witness_count;
 };

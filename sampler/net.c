@@ -6,17 +6,36 @@
 
 #include "field.h"
 
-enum { FIRST_REACH = 3, AROUND = 2, MOST_WEAK = 3, SETTLING = 3, TRIES = 2, POINTS = 4, QUARTERS = 4 };
-enum { WORK_OF_A_KNOT = 1800 };
+enum { AROUND = 2, MOST_WEAK = 3, SETTLING = 3, POINTS = 4, QUARTERS = 4 };
+enum { SURE_ENOUGH = 9 }; /* not to be looked at again while it waits */
+enum { LEAST_AROUND = 4, LEAST_TO_FILL = 3, FILLINGS = 4 }; /* of the eight knots around one; rounds */
 /* An edge is looked for up to REACH ticks beside its place, by the difference HALF ticks before and behind it. */
 enum { REACH = 5, HALF = 3, SAMPLES = 2 * (REACH + HALF) + 1 };
 static const double TICK = 0.1, BESIDE = 0.2; /* modules */
-static const double LEAST_SHARE = 0.35, LEAST_CONTRAST = 4;
-static const double STIFF = 0.5;              /* of a knot, in edges */
-static const double NEAR = 0.15, LEAST_NEAR = 0.55; /* modules; of the clear edges of the first knots */
-static const double FIRST = -0.27, APART = 0.18;  /* modules: where the points of a module are */
+static const double LEAST_CONTRAST = 4;
+static const double STIFF = 0.5;                 /* of a knot, in edges */
+static const double CURVED = 4;                  /* how much a net is held back from curving around a knot, in knots */
+static const double LEAST_NEAR = 0.55;           /* of the clear edges of the first knots */
+static const double FIRST = -0.27, APART = 0.18; /* modules: where the points of a module are */
+
+enum { PLANE = 3, MOST_TERMS = 6 };
+
+/* How a net grows: how far the first knots reach; by how many terms those around a knot tell its place; the work of a
+ * knot; of the contrast of the first knots, how much an edge has at least; and how near to its place one is, in
+ * modules. */
+struct manner {
+    int first_reach, terms, work_of_a_knot;
+    double least_share, near;
+};
+
+static const struct manner ALL_AROUND = {3, PLANE, 1800, 0.35, 0.15}, WHERE_SUREST = {2, MOST_TERMS, 2200, 0.5, 0.2};
 
 /* ---- Knots */
+
+/* Where a knot lies by those around it, and the ways to the next one on the right and below. */
+struct place {
+    struct point at, right, down;
+};
 
 static int knot_at(int x, int y) {
     return (y + NET_REACH) * NET_SIDE + x + NET_REACH;
@@ -26,28 +45,27 @@ static bool is_in_reach(int x, int y) {
     return x >= -NET_REACH && y >= -NET_REACH && x <= NET_REACH && y <= NET_REACH;
 }
 
-/* Where a knot lies by those around it, and the ways to the next one on the right and below. */
-struct place {
-    struct point at, right, down;
-};
-
-/* By the plane through the knots around it. False if these don't tell. */
+/* By the plane through the knots around it, or a surface that is held back from curving. False if these don't tell. */
 static bool place_by_others(const struct net *net, int x, int y, struct place *out) {
-    double matrices[2][9] = {{0}}, *matrix = matrices[0], sums[2][3] = {{0}};
+    double matrices[2][MOST_TERMS * MOST_TERMS] = {{0}}, *matrix = matrices[0], sums[2][MOST_TERMS] = {{0}};
+    int count = net->manner->terms;
     for (int down = -AROUND; down <= AROUND; down++)
         for (int right = -AROUND; right <= AROUND; right++) {
             int knot = knot_at(x + right, y + down);
             if (!is_in_reach(x + right, y + down) || net->is_weak[knot] == 0)
                 continue;
-            double terms[3] = {1, right, down}, weight = 1.0 / net->is_weak[knot];
-            for (int k = 0; k < 3; k++) {
+            double terms[MOST_TERMS] = {1, right, down, right * right, right * down, down * down},
+                   weight = 1.0 / net->is_weak[knot];
+            for (int k = 0; k < count; k++) {
                 sums[0][k] += weight * terms[k] * net->at[knot].x, sums[1][k] += weight * terms[k] * net->at[knot].y;
-                for (int j = 0; j < 3; j++)
-                    matrix[3 * k + j] += weight * terms[k] * terms[j];
+                for (int j = 0; j < count; j++)
+                    matrix[count * k + j] += weight * terms[k] * terms[j];
             }
         }
+    for (int k = PLANE; k < count; k++)
+        matrix[count * k + k] += CURVED;
     memcpy(matrices[1], matrices[0], sizeof matrices[0]);
-    bool is_told = solve(matrices[0], sums[0], 3) && solve(matrices[1], sums[1], 3);
+    bool is_told = solve(matrices[0], sums[0], count) && solve(matrices[1], sums[1], count);
     *out = (struct place){point_at(sums[0][0], sums[1][0]), point_at(sums[0][1], sums[1][1]),
                           point_at(sums[0][2], sums[1][2])};
     return is_told;
@@ -102,38 +120,70 @@ static void look_at_edges(const struct net *net, const struct place *place, stru
     }
 }
 
-/* The least way from a knot to one that edges show. */
-static int weakness_of(const struct net *net, int x, int y) {
-    int least = MOST_WEAK + 1;
+/* What the edges at a knot show: how many are clear and near its place, how many are clear and elsewhere, and where the
+ * knot lies by them. */
+struct shown {
+    int near, far;
+    struct point at;
+};
+
+/* Looks at a knot where those around it have it. False if these don't tell. */
+static bool look_at(const struct net *net, int x, int y, struct shown *out) {
+    struct edge edges[EDGES];
+    struct place place;
+    double offsets[2] = {0}, counts[2] = {0};
+    if (!place_by_others(net, x, y, &place))
+        return false;
+    limit_spend(net->limit, net->manner->work_of_a_knot);
+    look_at_edges(net, &place, edges);
+    *out = (struct shown){0};
+    for (int k = 0; k < EDGES; k++) {
+        if (edges[k].contrast < net->least || edges[k].contrast <= 0)
+            continue;
+        bool is_near = fabs(edges[k].offset) < net->manner->near;
+        out->near += is_near, out->far += !is_near;
+        offsets[k / 2] += edges[k].offset, counts[k / 2]++;
+    }
+    out->at = sum(place.at, sum(scale_by(place.right, offsets[0] / (counts[0] + STIFF)),
+                                scale_by(place.down, offsets[1] / (counts[1] + STIFF))));
+    return true;
+}
+
+/* How many of the eight knots around one are there. */
+static int known_around(const struct net *net, int x, int y) {
+    int count = 0;
+    for (int k = 0; k < 9; k++) {
+        int right = x + k % 3 - 1, down = y + k / 3 - 1;
+        count += k != 4 && is_in_reach(right, down) && net->is_weak[knot_at(right, down)] > 0;
+    }
+    return count;
+}
+
+/* 1 for a knot that edges show, and one more than those beside it for others. */
+static int weakness_of(const struct net *net, int x, int y, const struct shown *shown) {
+    int least = MOST_WEAK;
     for (int k = 0; k < 4; k++) {
         int right = x + (k == 0) - (k == 1), down = y + (k == 2) - (k == 3);
         int weak = is_in_reach(right, down) ? net->is_weak[knot_at(right, down)] : 0;
         least = weak > 0 && weak < least ? weak : least;
     }
-    return least + 1;
+    return shown->near + shown->far > 0 ? 1 : least + 1;
 }
 
-/* Puts a knot where those around it have it and then where the edges do. False if it is too far from any edge. */
-static bool settle(struct net *net, int x, int y) {
-    struct place place;
-    struct edge edges[EDGES];
-    if (!place_by_others(net, x, y, &place))
-        return false;
-    double offsets[2] = {0}, counts[2] = {0};
-    limit_spend(net->limit, WORK_OF_A_KNOT);
-    look_at_edges(net, &place, edges);
-    for (int k = 0; k < EDGES; k++)
-        if (edges[k].contrast >= net->least)
-            offsets[k / 2] += edges[k].offset, counts[k / 2]++;
-    int weak = counts[0] + counts[1] > 0 ? 1 : weakness_of(net, x, y), knot = knot_at(x, y);
-    if (weak > MOST_WEAK)
-        return false;
-    net->at[knot] = sum(place.at, sum(scale_by(place.right, offsets[0] / (counts[0] + STIFF)),
-                                      scale_by(place.down, offsets[1] / (counts[1] + STIFF))));
+static void put(struct net *net, int knot, struct point at, int is_weak) {
     if (net->is_weak[knot] == 0)
         net->knots[net->count++] = knot;
-    net->is_weak[knot] = (uint8_t)weak;
-    return true;
+    net->at[knot] = at, net->is_weak[knot] = (uint8_t)is_weak;
+}
+
+/* Puts a knot where those around it and then the edges have it, unless it is too far from any edge. */
+static void settle(struct net *net, int x, int y) {
+    struct shown shown;
+    if (!look_at(net, x, y, &shown))
+        return;
+    int weak = weakness_of(net, x, y, &shown);
+    if (weak <= MOST_WEAK)
+        put(net, knot_at(x, y), shown.at, weak);
 }
 
 static void settle_all(struct net *net) {
@@ -144,11 +194,74 @@ static void settle_all(struct net *net) {
 /* ---- Growing */
 
 static void begin(const struct homography *to_picture, struct net *net) {
-    for (int y = -FIRST_REACH; y <= FIRST_REACH; y++)
-        for (int x = -FIRST_REACH; x <= FIRST_REACH; x++) {
-            int knot = knot_at(x, y);
-            net->at[knot] = map_point(to_picture, x, y), net->is_weak[knot] = 1;
-            net->knots[net->count++] = knot;
+    int reach = net->manner->first_reach;
+    for (int y = -reach; y <= reach; y++)
+        for (int x = -reach; x <= reach; x++)
+            put(net, knot_at(x, y), map_point(to_picture, x, y), 1);
+}
+
+/* How sure a knot is, from 1 on: by the edges that lie where those around it have them, and by how many these are; 0
+ * if it may be outside of the symbol. */
+static int sureness_of(const struct net *net, int x, int y, const struct shown *shown) {
+    int around = known_around(net, x, y), sure = 3 * (shown->near - shown->far) + around;
+    bool is_shown = shown->near > shown->far || around >= LEAST_AROUND;
+    return !is_shown ? 0 : sure < 1 ? 1 : sure < MOST_SURE ? sure : MOST_SURE;
+}
+
+/* Lets a knot wait until none is surer, if it doesn't wait as a sure one. */
+static void let_wait(struct net *net, int x, int y) {
+    struct shown shown;
+    int knot = knot_at(x, y);
+    if (net->sure[knot] >= SURE_ENOUGH || net->waiting == MOST_WAITING || !look_at(net, x, y, &shown))
+        return;
+    int sure = sureness_of(net, x, y, &shown);
+    if (sure <= net->sure[knot])
+        return;
+    net->sure[knot] = (uint8_t)sure;
+    net->queue[net->waiting] = (struct waiting){knot, net->last[sure], weakness_of(net, x, y, &shown), shown.at};
+    net->last[sure] = ++net->waiting;
+}
+
+/* Takes the surest of those that wait. NULL if there is none. */
+static const struct waiting *take_surest(struct net *net) {
+    for (int sure = MOST_SURE; sure > 0; sure--)
+        if (net->last[sure] > 0) {
+            const struct waiting *here = &net->queue[net->last[sure] - 1];
+            net->last[sure] = here->before;
+            return here;
+        }
+    return NULL;
+}
+
+/* Does something with those of the four beside a knot that aren't there. */
+static void for_each_beside(struct net *net, int knot, void (*act)(struct net *, int, int)) {
+    int x = knot % NET_SIDE - NET_REACH, y = knot / NET_SIDE - NET_REACH;
+    for (int way = 0; way < 4; way++) {
+        int right = x + (way == 0) - (way == 1), down = y + (way == 2) - (way == 3);
+        if (is_in_reach(right, down) && net->is_weak[knot_at(right, down)] == 0)
+            act(net, right, down);
+    }
+}
+
+static void grow_all_around(struct net *net) {
+    for (int k = 0; k < net->count && (k % 16 > 0 || !limit_reached(net->limit)); k++) {
+        settle(net, net->knots[k] % NET_SIDE - NET_REACH, net->knots[k] / NET_SIDE - NET_REACH);
+        for_each_beside(net, net->knots[k], settle);
+    }
+    settle_all(net);
+}
+
+static void grow_where_surest(struct net *net) {
+    int first = net->count;
+    memset(net->sure, 0, sizeof net->sure);
+    memset(net->last, 0, sizeof net->last);
+    net->waiting = 0;
+    for (int k = 0; k < first; k++)
+        for_each_beside(net, net->knots[k], let_wait);
+    for (const struct waiting *next; !limit_reached(net->limit) && (next = take_surest(net)) != NULL;)
+        if (net->is_weak[next->knot] == 0) {
+            put(net, next->knot, next->at, next->is_weak);
+            for_each_beside(net, next->knot, let_wait);
         }
 }
 
@@ -156,7 +269,7 @@ static void begin(const struct homography *to_picture, struct net *net) {
 static double mean_of_edges(const struct net *net, double *near) {
     struct edge edges[EDGES];
     struct place place;
-    double total = 0, clear = 0, at_place = 0;
+    double total = 0, clear = 0, at_place = 0, near_by = net->manner->near;
     for (int k = 0; k < net->count; k++) {
         if (!place_by_others(net, net->knots[k] % NET_SIDE - NET_REACH, net->knots[k] / NET_SIDE - NET_REACH, &place))
             continue;
@@ -165,36 +278,29 @@ static double mean_of_edges(const struct net *net, double *near) {
         for (int j = 0; j < EDGES; j++) {
             total += edges[j].contrast;
             clear += edges[j].contrast >= net->least && edges[j].contrast > 0;
-            at_place += edges[j].contrast >= net->least && edges[j].contrast > 0 && fabs(edges[j].offset) < NEAR;
+            at_place += edges[j].contrast >= net->least && edges[j].contrast > 0 && fabs(edges[j].offset) < near_by;
         }
     }
     *near = clear > 0 ? at_place / clear : 0;
-    limit_spend(net->limit, (int64_t)WORK_OF_A_KNOT * net->count);
+    limit_spend(net->limit, (int64_t)net->manner->work_of_a_knot * net->count);
     return total / (EDGES * net->count);
 }
 
-bool grow_net(const struct plane *grey, const struct homography *to_picture, struct limit *limit, struct net *out) {
+bool grow_net(const struct plane *grey, const struct homography *to_picture, bool is_surest, struct limit *limit,
+              struct net *out) {
     double near;
     memset(out->is_weak, 0, sizeof out->is_weak);
+    out->manner = is_surest ? &WHERE_SUREST : &ALL_AROUND;
     out->grey = grey, out->limit = limit, out->least = 0, out->count = 0;
     begin(to_picture, out);
-    out->least = fmax(LEAST_SHARE * mean_of_edges(out, &near), LEAST_CONTRAST);
+    out->least = fmax(out->manner->least_share * mean_of_edges(out, &near), LEAST_CONTRAST);
     for (int round = 0; round < SETTLING; round++)
         settle_all(out);
     mean_of_edges(out, &near);
     if (near < LEAST_NEAR)
         return false;
-    for (int k = 0; k < out->count && (k % 16 > 0 || !limit_reached(limit)); k++) {
-        int x = out->knots[k] % NET_SIDE - NET_REACH, y = out->knots[k] / NET_SIDE - NET_REACH;
-        settle(out, x, y);
-        for (int way = 0; way < 4; way++) {
-            int right = x + (way == 0) - (way == 1), down = y + (way == 2) - (way == 3);
-            if (is_in_reach(right, down) && out->is_weak[knot_at(right, down)] == 0)
-                settle(out, right, down);
-        }
-    }
-    for (int round = 0; round < TRIES; round++)
-        settle_all(out);
+    (is_surest ? grow_where_surest : grow_all_around)(out);
+    settle_all(out);
     return true;
 }
 
@@ -270,13 +376,26 @@ static void find_module(const struct border *border, int column, int row, bool i
     }
 }
 
-bool sample_net(const struct net *net, const struct plane *picture, double scale, int first_x, int first_y,
+/* Puts the knots of a part that aren't there where those around them have them. */
+static void fill_in(struct net *net, struct part part) {
+    struct place place;
+    for (int round = 0; round < FILLINGS; round++)
+        for (int y = part.first_y; y <= part.last_y; y++)
+            for (int x = part.first_x; x <= part.last_x; x++)
+                if (is_in_reach(x, y) && net->is_weak[knot_at(x, y)] == 0 && known_around(net, x, y) >= LEAST_TO_FILL &&
+                    place_by_others(net, x, y, &place))
+                    put(net, knot_at(x, y), place.at, 2);
+}
+
+bool sample_net(struct net *net, const struct plane *picture, double scale, int first_x, int first_y,
                 const struct border *border, struct brightnesses *out, struct point corners[4]) {
     struct extent extent = border->extent;
     bool has_all = true;
     int x, y;
     out->extent = extent;
     first_x += border->x, first_y += border->y;
+    int across = border->turns % 2 == 0 ? extent.wide : extent.high, down = extent.wide + extent.high - across;
+    fill_in(net, (struct part){first_x, first_x + across, first_y, first_y + down});
     for (int k = 0; k < extent.wide * extent.high && has_all; k++) {
         find_module(border, k % extent.wide, k / extent.wide, false, &x, &y);
         has_all = has_module(net, first_x + x, first_y + y);

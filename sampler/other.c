@@ -7,7 +7,7 @@
 #include "squares.h"
 
 enum { ROWS_APART = 2, BARS_APART = 6, LEAST_SIDE = 16, LARGE = 2500000 }; /* pixels */
-static const struct surroundings AROUND = {8, 2, 24};
+static const struct surroundings AROUND = {8, 2, 24, 0};
 
 /* Room for a line of pixels, and for its runs both ways. */
 struct room {

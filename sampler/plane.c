@@ -14,7 +14,7 @@ bool leaves(struct limit *limit, int row, int width) {
 
 uint8_t *plane_make(int width, int height, int frame, struct plane *out) {
     size_t stride = (size_t)width + 2 * (size_t)frame;
-    uint8_t *owned = calloc((size_t)height + 2 * (size_t)frame, stride);
+    uint8_t *owned = malloc(((size_t)height + 2 * (size_t)frame) * stride);
     uint8_t *first = owned != NULL ? owned + (size_t)frame * (stride + 1) : NULL;
     *out = (struct plane){width, height, frame, stride, first, owned};
     return first;
@@ -60,8 +60,12 @@ bool plane_steepen(const struct plane *from, struct limit *limit, struct plane *
         const uint8_t *row = pixel_of(from, 0, y), *below = row + from->stride;
         for (int x = 0; x + 1 < from->width; x++)
             to[x] = (uint8_t)((abs(row[x] - below[x + 1]) + abs(row[x + 1] - below[x])) / 2);
+        to[from->width - 1] = 0;
     }
-    return is_made(to != NULL && y + 1 >= from->height, out);
+    bool is_whole = to != NULL && y + 1 >= from->height;
+    if (is_whole)
+        memset(to, 0, out->stride);
+    return is_made(is_whole, out);
 }
 
 /* ---- Smooth, and framed */
@@ -419,8 +423,11 @@ static void join_squares(const struct tiles *tiles) {
 
 /* The pixels of a tile below this are dark. */
 static uint8_t limit_of(const struct tiles *tiles, int row, int column) {
+    const struct surroundings *by = &tiles->by;
     struct range all = tiles->squares[(size_t)row * (size_t)tiles->across + (size_t)column];
-    return (uint8_t)(all.most - all.least < tiles->by.least_contrast ? 0 : (all.most + all.least) / 2);
+    int contrast = all.most - all.least;
+    bool is_clear = by->most_contrast > 0 && contrast > by->most_contrast;
+    return (uint8_t)(contrast < by->least_contrast || is_clear ? 0 : (all.most + all.least) / 2);
 }
 
 /* Marks what is dark in a row of pixels, by a limit for each. */
@@ -429,7 +436,16 @@ static void mark_row(const uint8_t *restrict row, const uint8_t *restrict limits
         to[x] = row[x] < limits[x];
 }
 
-/* Marks what is dark by the limits of the tiles. `limits` has room for those of a row; `to` is light all over. */
+/* Makes the frame of a plane light, of which this is the first pixel. */
+static void lighten_frame(const struct plane *plane, uint8_t *first) {
+    uint8_t *row = first - plane->stride - 1;
+    memset(row, 0, plane->stride);
+    for (int y = 0; y < plane->height; y++)
+        row += plane->stride, row[0] = row[plane->stride - 1] = 0;
+    memset(row + plane->stride, 0, plane->stride);
+}
+
+/* Marks what is dark by the limits of the tiles. `limits` has room for those of a row. */
 static bool mark_dark(const struct plane *from, struct limit *limit, const struct tiles *tiles, uint8_t *limits,
                       uint8_t *to, size_t stride) {
     int side = tiles->by.tile, width = from->width, y = 0;
@@ -449,6 +465,8 @@ bool plane_darken(const struct plane *from, struct surroundings by, struct limit
     if (is_whole)
         join_squares(&tiles);
     is_whole = is_whole && mark_dark(from, limit, &tiles, limits, to, out->stride);
+    if (is_whole)
+        lighten_frame(out, to);
     free(limits);
     free(tiles.ranges);
     return is_made(is_whole, out);

@@ -16,7 +16,7 @@ struct plane {
     uint8_t *owned;        /* what is freed, if anything */
 };
 
-/* Makes room for a plane of 0, and gives its first pixel; NULL if there is no memory. */
+/* Makes room for a plane, and gives its first pixel; NULL if there is no memory. */
 uint8_t *plane_make(int width, int height, int frame, struct plane *out);
 
 /* Whether the limit leaves a row of so many pixels; that is looked at now and then. */
@@ -52,9 +52,10 @@ bool plane_close(const struct plane *from, int least, int most, struct limit *li
 bool plane_steepen(const struct plane *from, struct limit *limit, struct plane *out);
 
 /* What a pixel is compared with, by squares of tiles of so many pixels each way: the square around its own tile, with
- * so many to each side; nothing is dark where it shows less contrast than so many levels of 255. */
+ * so many to each side; nothing is dark where it shows less contrast than so many levels of 255, or, if that isn't 0,
+ * more than so many. */
 struct surroundings {
-    int tile, around, least_contrast;
+    int tile, around, least_contrast, most_contrast;
 };
 
 /* 1 where a pixel is darker than its surroundings, else 0, and in the frame. */

@@ -6,6 +6,9 @@
 enum { POINTS = 4, QUARTERS = 4 };
 static const double FIRST = -0.27, APART = 0.18; /* modules: where the points of a module are */
 static const double LEAST_AROUND = 0.15; /* of the contrast of the symbol, below which a window shows one colour only */
+static const double LEAST_CONTRAST = 3;  /* of dark and light modules, in levels */
+/* How much of the difference to the four neighbours is added. */
+static const double ADDED[SHARPENINGS] = {[SLIGHTLY] = 0.12, [CLEARLY] = 0.2, [STRONGLY] = 0.3};
 
 void sample_modules(const struct plane *plane, const struct layout *layout, const struct lie *lie,
                     struct brightnesses *out) {
@@ -32,11 +35,6 @@ void take_darkest(struct brightnesses *brightnesses) {
     memcpy(brightnesses->of, brightnesses->darkest, count * sizeof *brightnesses->of);
 }
 
-/* A level of brightness that changes evenly over the symbol: a + b x + c y, from -0.5 to 0.5. */
-struct level {
-    double a, b, c;
-};
-
 /* The place of a row or column in the middle of a module, from -0.5 to 0.5. */
 static double place_of(int count, int k) {
     return (k + 0.5) / count - 0.5;
@@ -57,44 +55,50 @@ static void add_module(struct sums *sums, double x, double y, double v) {
     sums->v += v, sums->xv += x * v, sums->yv += y * v;
 }
 
-/* The level of the modules of a class, without those that are farther than `most` from the level before. */
-static bool fit_level(const float *of, struct extent extent, const uint8_t *class, int wanted,
-                      const struct level *before, double most, struct level *out) {
-    struct sums sums = {0};
+/* Sums up the modules of both classes, without those that are farther than `most` from the levels before. */
+static void sum_up(const float *of, struct extent extent, const uint8_t *class, const struct levels *before,
+                   double most, struct sums out[2]) {
+    double places[MOST_SIDE];
+    for (int column = 0; column < extent.wide; column++)
+        places[column] = place_of(extent.wide, column);
     for (int row = 0; row < extent.high; row++) {
         double y = place_of(extent.high, row);
         for (int column = 0; column < extent.wide; column++, of++, class++) {
-            double x = place_of(extent.wide, column);
-            if (*class == wanted && (before == NULL || fabs(*of - before->a - before->b * x - before->c * y) <= most))
-                add_module(&sums, x, y, *of);
+            if (*class == UNKNOWN)
+                continue;
+            double x = places[column];
+            const struct level *level = before != NULL ? &before->of[*class] : NULL;
+            if (level == NULL || fabs(*of - level->a - level->b * x - level->c * y) <= most)
+                add_module(&out[*class], x, y, *of);
         }
     }
-    double stiff = 0.2,
-           matrix[9] = {sums.n, sums.x, sums.y, sums.x, sums.xx + stiff, sums.xy, sums.y, sums.xy, sums.yy + stiff};
-    double values[3] = {sums.v, sums.xv, sums.yv};
-    if (sums.n < 4 || !solve(matrix, values, 3))
+}
+
+static bool level_from(const struct sums *sums, struct level *out) {
+    double stiff = 0.2, matrix[9] = {sums->n, sums->x,  sums->y, sums->x,         sums->xx + stiff,
+                                     sums->xy, sums->y, sums->xy, sums->yy + stiff};
+    double values[3] = {sums->v, sums->xv, sums->yv};
+    if (sums->n < 4 || !solve(matrix, values, 3))
         return false;
     *out = (struct level){values[0], values[1], values[2]};
     return true;
 }
 
-struct levels {
-    struct level of[2]; /* LIGHT and DARK */
-};
+static double contrast_of(const struct levels *levels) {
+    return levels->of[LIGHT].a - levels->of[DARK].a;
+}
 
+/* Fits levels to the modules of both classes. False if these show no contrast. */
 static bool fit_levels(const float *of, struct extent extent, const uint8_t *class, struct levels *out) {
-    struct levels first;
-    for (int colour = LIGHT; colour <= DARK; colour++)
-        if (!fit_level(of, extent, class, colour, NULL, 0, &first.of[colour]))
-            return false;
-    *out = first;
-    double contrast = first.of[LIGHT].a - first.of[DARK].a;
-    if (contrast < 3)
+    struct sums first[2] = {{0}}, again[2] = {{0}};
+    sum_up(of, extent, class, NULL, 0, first);
+    if (!level_from(&first[LIGHT], &out->of[LIGHT]) || !level_from(&first[DARK], &out->of[DARK]) ||
+        contrast_of(out) < LEAST_CONTRAST)
         return false;
+    sum_up(of, extent, class, out, 0.4 * contrast_of(out), again);
     for (int colour = LIGHT; colour <= DARK; colour++)
-        if (!fit_level(of, extent, class, colour, &first.of[colour], 0.4 * contrast, &out->of[colour]))
-            out->of[colour] = first.of[colour];
-    return out->of[LIGHT].a - out->of[DARK].a >= 3;
+        level_from(&again[colour], &out->of[colour]);
+    return contrast_of(out) >= LEAST_CONTRAST;
 }
 
 /* The brightness of the place (x, y), which may lie one module outside, where the quiet zone is. */
@@ -117,54 +121,100 @@ static void sharpen(const struct brightnesses *from, const struct levels *levels
         }
 }
 
-static void divide(const float *of, struct extent extent, const struct levels *levels, double offset,
-                   uint8_t *modules) {
-    for (int row = 0; row < extent.high; row++)
-        for (int column = 0; column < extent.wide; column++) {
-            double light = level_at(&levels->of[LIGHT], extent, column, row),
-                   dark = level_at(&levels->of[DARK], extent, column, row);
-            *modules++ = *of++ < dark + (0.5 + offset) * (light - dark);
-        }
+/* Whether a module that is so bright is dark: nearer to that level than to the light one, but for an offset. */
+static bool is_dark_at(const struct levels *levels, struct extent extent, double offset, float here, int column,
+                       int row) {
+    double light = level_at(&levels->of[LIGHT], extent, column, row),
+           dark = level_at(&levels->of[DARK], extent, column, row);
+    return here < dark + (0.5 + offset) * (light - dark);
 }
 
-/* Writes for each of the modules of a line the least and the most of those of a window of 2 * `around` + 1 of them, or
- * as many as there are, which is moved into the line. */
-static void find_extremes(const float *least, const float *most, int count, int step, int around, float *out_least,
-                          float *out_most) {
-    around = 2 * around < count ? around : (count - 1) / 2;
-    for (int k = 0; k < count; k++) {
-        int first = k - around < 0 ? 0 : k + around >= count ? count - 1 - 2 * around : k - around;
-        float low = least[first * step], high = most[first * step];
-        for (int j = first + 1; j <= first + 2 * around; j++) {
-            low = least[j * step] < low ? least[j * step] : low;
-            high = most[j * step] > high ? most[j * step] : high;
-        }
-        out_least[k * step] = low, out_most[k * step] = high;
+/* ---- What rules have in common, which is found when it is first asked for */
+
+void begin_telling(const struct brightnesses *from, const struct layout *layout, const uint8_t *colour,
+                   struct telling *out) {
+    out->from = from, out->layout = layout, out->colour = colour;
+    for (int way = 0; way < SHARPENINGS; way++)
+        out->ways[way].by_border.state = out->ways[way].by_all.state = NOT_TRIED;
+}
+
+static const struct levels *levels_of(struct telling *telling, enum sharpening way, bool is_by_all);
+
+static bool fit_by_border(struct telling *telling, enum sharpening way) {
+    const struct brightnesses *from = telling->from;
+    struct sharpened *to = &telling->ways[way];
+    const struct levels *seen = way == AS_SEEN ? NULL : levels_of(telling, AS_SEEN, false);
+    if (way == AS_SEEN)
+        memcpy(to->of, from->of, (size_t)from->extent.wide * (size_t)from->extent.high * sizeof *to->of);
+    else if (seen != NULL)
+        sharpen(from, seen, ADDED[way], to->of);
+    return (way == AS_SEEN || seen != NULL) &&
+           fit_levels(to->of, from->extent, telling->colour, &to->by_border.levels);
+}
+
+static bool fit_by_all(struct telling *telling, enum sharpening way) {
+    uint8_t class[MOST_MODULES];
+    struct extent extent = telling->from->extent;
+    struct sharpened *to = &telling->ways[way];
+    const struct levels *levels = levels_of(telling, way, false);
+    for (int round = 0; round < 2 && levels != NULL; round++) {
+        for (int k = 0; k < extent.wide * extent.high; k++)
+            class[k] = is_dark_at(levels, extent, 0, to->of[k], k % extent.wide, k / extent.wide);
+        levels = fit_levels(to->of, extent, class, &to->by_all.levels) ? &to->by_all.levels : NULL;
     }
+    return levels != NULL;
 }
 
-/* Divides by the middle between the darkest and the lightest module around each, where these differ by a share of the
- * contrast. */
-static void divide_around(const float *of, struct extent extent, double contrast, int around, uint8_t *modules) {
-    float rows[2][MOST_MODULES], squares[2][MOST_MODULES];
-    int wide = extent.wide, high = extent.high;
-    for (int row = 0; row < high; row++)
-        find_extremes(of + row * wide, of + row * wide, wide, 1, around, rows[0] + row * wide, rows[1] + row * wide);
-    for (int column = 0; column < wide; column++)
-        find_extremes(rows[0] + column, rows[1] + column, high, wide, around, squares[0] + column, squares[1] + column);
-    for (int k = 0; k < wide * high; k++)
-        if (squares[1][k] - squares[0][k] >= LEAST_AROUND * contrast)
-            modules[k] = 2 * of[k] < squares[0][k] + squares[1][k];
+/* The levels of dark and light modules, sharpened in a way: those of the border, or of all. NULL if there are none. */
+static const struct levels *levels_of(struct telling *telling, enum sharpening way, bool is_by_all) {
+    struct fitted *fitted = is_by_all ? &telling->ways[way].by_all : &telling->ways[way].by_border;
+    if (fitted->state == NOT_TRIED)
+        fitted->state = (is_by_all ? fit_by_all : fit_by_border)(telling, way) ? THERE : MISSING;
+    return fitted->state == THERE ? &fitted->levels : NULL;
+}
+
+/* A rule, and what it tells a module by. */
+struct teller {
+    struct rule rule;
+    const float *of;
+    struct extent extent;
+    const struct levels *levels;
+    double contrast;
+    struct division *divisions; /* of the squares, which are found when they are first asked for */
+};
+
+/* ---- Where the light changes over the symbol, by what is around each module */
+
+/* Modules of a line, from one to another. */
+struct stretch {
+    int first, last;
+};
+
+/* 2 * `around` + 1 of them, or as many as there are, with a module in the middle, but moved into the line. */
+static struct stretch stretch_around(int module, int count, int around) {
+    around = 2 * around < count ? around : (count - 1) / 2;
+    int first = module < around ? 0 : module + around < count ? module - around : count - 1 - 2 * around;
+    return (struct stretch){first, first + 2 * around};
+}
+
+/* Whether a module is nearer to the darkest than to the lightest one around it; if these don't differ by a share of the
+ * contrast, as it is. */
+static bool is_dark_around(const struct teller *by, int column, int row, bool is_dark) {
+    int wide = by->extent.wide;
+    struct stretch across = stretch_around(column, wide, by->rule.around),
+                   down = stretch_around(row, by->extent.high, by->rule.around);
+    float here = by->of[row * wide + column], least = here, most = here;
+    for (int y = down.first; y <= down.last; y++)
+        for (int x = across.first; x <= across.last; x++) {
+            float beside = by->of[y * wide + x];
+            least = beside < least ? beside : least, most = beside > most ? beside : most;
+        }
+    return most - least >= LEAST_AROUND * by->contrast ? 2 * here < least + most : is_dark;
 }
 
 /* ---- Where the light changes suddenly, by the squares that it leaves clear */
 
 enum { SQUARE = 5, MODULES = SQUARE * SQUARE };
-
-/* Where the brightnesses of a square are divided best, and how much of their variance that takes away. */
-struct division {
-    float middle, share, contrast;
-};
 
 /* Puts a number among those before it, which are sorted. */
 static void insert(float *sorted, int count, float here) {
@@ -198,48 +248,59 @@ static int square_of(int module, bool is_last, int squares) {
     return at < 0 ? 0 : at < squares ? at : squares - 1;
 }
 
-/* Divides by that of the squares around each module whose brightnesses fall most clearly into two. */
-static void divide_cleanly(const float *of, struct extent extent, double contrast, uint8_t *modules) {
-    struct division divisions[MOST_MODULES];
-    int wide = extent.wide, across = wide - SQUARE + 1, down = extent.high - SQUARE + 1;
-    for (int k = 0; k < across * down; k++)
-        divisions[k] = division_of(of + k / across * wide + k % across, wide);
-    for (int k = 0; k < wide * extent.high; k++) {
-        struct division best = {0};
-        for (int y = square_of(k / wide, false, down); y <= square_of(k / wide, true, down); y++)
-            for (int x = square_of(k % wide, false, across); x <= square_of(k % wide, true, across); x++) {
-                const struct division *here = &divisions[y * across + x];
-                if (here->share > best.share && here->contrast >= LEAST_AROUND * contrast)
-                    best = *here;
-            }
-        if (best.share > 0)
-            modules[k] = of[k] < best.middle;
-    }
+static struct division *division_at(const struct teller *by, int x, int y) {
+    struct division *here = &by->divisions[y * by->extent.wide + x];
+    if (here->share < 0)
+        *here = division_of(by->of + y * by->extent.wide + x, by->extent.wide);
+    return here;
 }
 
-bool tell_apart(const struct brightnesses *from, const uint8_t *colour, struct rule rule, uint8_t *modules) {
-    float sharp[MOST_MODULES];
-    const float *of = from->of;
-    struct extent extent = from->extent;
-    struct levels levels;
-    if (!fit_levels(of, extent, colour, &levels))
-        return false;
-    if (rule.sharpening > 0) {
-        sharpen(from, &levels, rule.sharpening, sharp);
-        of = sharp;
-        if (!fit_levels(of, extent, colour, &levels))
-            return false;
+/* Whether a module is dark by that of the squares around it whose brightnesses fall most clearly into two; if none
+ * does, as it is. */
+static bool is_dark_cleanly(const struct teller *by, int column, int row, bool is_dark) {
+    struct division best = {0};
+    int across = by->extent.wide - SQUARE + 1, down = by->extent.high - SQUARE + 1;
+    for (int y = square_of(row, false, down); y <= square_of(row, true, down); y++)
+        for (int x = square_of(column, false, across); x <= square_of(column, true, across); x++) {
+            const struct division *here = division_at(by, x, y);
+            if (here->share > best.share && here->contrast >= LEAST_AROUND * by->contrast)
+                best = *here;
+        }
+    return best.share > 0 ? by->of[row * by->extent.wide + column] < best.middle : is_dark;
+}
+
+/* ---- By a rule */
+
+static bool is_dark(const struct teller *by, int module) {
+    int column = module % by->extent.wide, row = module / by->extent.wide;
+    bool is_dark = is_dark_at(by->levels, by->extent, by->rule.offset, by->of[module], column, row);
+    return by->rule.is_cleanest  ? is_dark_cleanly(by, column, row, is_dark)
+           : by->rule.around > 0 ? is_dark_around(by, column, row, is_dark)
+                                 : is_dark;
+}
+
+/* Whether at most so many modules of the border have the wrong colour. */
+static bool shows_border(const struct teller *by, const struct telling *telling, int most) {
+    int wrong = 0;
+    for (int k = 0; k < telling->layout->border_count && wrong <= most; k++) {
+        int module = telling->layout->border[k], colour = telling->colour[module];
+        wrong += colour != UNKNOWN && is_dark(by, module) != (colour == DARK);
     }
-    divide(of, extent, &levels, 0, modules);
-    for (int round = 0; rule.is_by_all && round < 2; round++) {
-        if (!fit_levels(of, extent, modules, &levels))
-            return false;
-        divide(of, extent, &levels, 0, modules);
-    }
-    divide(of, extent, &levels, rule.offset, modules);
-    if (rule.is_cleanest)
-        divide_cleanly(of, extent, levels.of[LIGHT].a - levels.of[DARK].a, modules);
-    else if (rule.around > 0)
-        divide_around(of, extent, levels.of[LIGHT].a - levels.of[DARK].a, rule.around, modules);
-    return true;
+    return wrong <= most;
+}
+
+enum told tell_apart(struct telling *telling, struct rule rule, int most, uint8_t *modules) {
+    const struct levels *levels = levels_of(telling, rule.sharpening, rule.is_by_all);
+    struct extent extent = telling->from->extent;
+    if (levels == NULL)
+        return NO_CONTRAST;
+    const float *of = telling->ways[rule.sharpening].of;
+    struct teller by = {rule, of, extent, levels, contrast_of(levels), telling->divisions};
+    for (int k = 0; k < extent.wide * extent.high && rule.is_cleanest; k++)
+        telling->divisions[k].share = -1;
+    if (!shows_border(&by, telling, most))
+        return NO_BORDER;
+    for (int k = 0; k < extent.wide * extent.high; k++)
+        modules[k] = is_dark(&by, k);
+    return TOLD_APART;
 }

@@ -5,10 +5,9 @@
 #include <stdlib.h>
 
 enum { CALM_LEVELS = 3, LATTICE_LEVELS = 4, LEAST_LEVEL = 24 };
-enum { LEAST_CONTRAST = 24, LEAST_OF_REMADE = 6 }; /* levels */
-static const struct surroundings WIDE = {8, 2, LEAST_CONTRAST}, CLOSE = {8, 1, LEAST_CONTRAST},
-                                 OF_REMADE = {8, 1, LEAST_OF_REMADE};
-enum { FOR_NETS = 25 }; /* percent of the usual work */
+enum { LEAST_CONTRAST = 24, LEAST_OF_REMADE = 6, MOST_OF_FAINT = 160 }; /* levels */
+static const struct surroundings WIDE = {8, 2, LEAST_CONTRAST, 0}, CLOSE = {8, 1, LEAST_CONTRAST, 0},
+                                 OF_REMADE = {8, 1, LEAST_OF_REMADE, 0};
 enum { STEEPEST_OF_FAINT = 8 }; /* levels: of a window with modules */
 static const double LEAST_LINE = 10; /* pixels of a level */
 
@@ -309,7 +308,6 @@ static void search_deeply(struct search *search) {
     search_smeared(search);
     search_dots(search, plain);
     search_dots(search, inverted);
-    limit_begin_anew(search->judge.limit, FOR_NETS);
     search_nets(search);
 }
 
@@ -317,6 +315,7 @@ void search_picture(struct search *search, const struct plane *picture, bool is_
     struct sight *plain = &search->sights[0], *inverted = &search->sights[1];
     plain->picture = *picture, inverted->is_inverted = true;
     search->by = is_remade ? OF_REMADE : WIDE, search->seeds.count = 0;
+    search->by.most_contrast = is_alike ? MOST_OF_FAINT : 0;
     search->most_steep = is_alike ? STEEPEST_OF_FAINT : UINT8_MAX;
     note_lack(search, make_levels(plain, search->judge.limit));
     search_clearly(search);

@@ -39,7 +39,7 @@ struct search {
     ecc200_sample *found;
     size_t count, room;
     struct known known;   /* where they are */
-    struct surroundings by; /* what is dark is darker than these */
+    struct surroundings by; /* what is dark is darker than these; what is clearer was seen before */
     int most_steep;         /* of what lattices are looked for in: what is steeper was seen before */
     struct seeds seeds;     /* of the lattices that were looked for */
 };

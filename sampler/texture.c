@@ -1,6 +1,7 @@
 #include "texture.h"
 
 #include <stdlib.h>
+#include <string.h>
 
 #include "spectrum.h"
 
@@ -16,12 +17,25 @@ static int steepness_at(const struct plane *steep, int x, int y) {
     return here < MOST_STEEP ? here : MOST_STEEP;
 }
 
-static void sum_tiles(const struct plane *steep, struct limit *limit, struct tiles *tiles) {
-    limit_spend(limit, (int64_t)steep->width * steep->height);
-    for (int y = 0; y < steep->height && (y % TILE > 0 || !limit_reached(limit)); y++)
+/* Adds the columns of a row of tiles. In lanes. */
+static void add_rows(const struct plane *steep, int first, uint16_t *restrict columns) {
+    memset(columns, 0, (size_t)steep->width * sizeof *columns);
+    for (int y = first; y < first + TILE && y < steep->height; y++) {
+        const uint8_t *restrict row = pixel_of(steep, 0, y);
         for (int x = 0; x < steep->width; x++)
-            tiles->sums[(size_t)(y / TILE) * (size_t)tiles->across + (size_t)(x / TILE)] +=
-                (uint32_t)steepness_at(steep, x, y);
+            columns[x] = (uint16_t)(columns[x] + (row[x] < MOST_STEEP ? row[x] : MOST_STEEP));
+    }
+}
+
+/* `columns` has room for a row. */
+static void sum_tiles(const struct plane *steep, struct limit *limit, uint16_t *columns, struct tiles *tiles) {
+    limit_spend(limit, (int64_t)steep->width * steep->height);
+    for (int row = 0; row < tiles->down && !limit_reached(limit); row++) {
+        uint32_t *sums = tiles->sums + (size_t)row * (size_t)tiles->across;
+        add_rows(steep, row * TILE, columns);
+        for (int x = 0; x < steep->width; x++)
+            sums[x / TILE] += columns[x];
+    }
 }
 
 /* How steep a window of two by two tiles is. */
@@ -78,11 +92,13 @@ static void keep_spot(struct spot *out, int room, int *count, struct spot spot) 
 int find_spots(const struct plane *steep, int most, struct limit *limit, struct spot *out, int room) {
     struct tiles tiles = {.across = (steep->width + TILE - 1) / TILE, .down = (steep->height + TILE - 1) / TILE};
     int count = 0;
+    uint16_t *columns = malloc((size_t)steep->width * sizeof *columns);
     tiles.sums = calloc((size_t)tiles.across * (size_t)tiles.down, sizeof *tiles.sums);
-    if (tiles.sums == NULL)
-        return -1;
-    sum_tiles(steep, limit, &tiles);
-    for (int row = -1; row < tiles.down; row++)
+    bool has_room = tiles.sums != NULL && columns != NULL;
+    if (has_room)
+        sum_tiles(steep, limit, columns, &tiles);
+    free(columns);
+    for (int row = -1; row < tiles.down && has_room; row++)
         for (int column = -1; column < tiles.across; column++) {
             double here = steepness_of(&tiles, column, row);
             if (here >= LEAST_STEEPNESS && here <= most && is_steepest(&tiles, column, row, here))
@@ -92,5 +108,5 @@ int find_spots(const struct plane *steep, int most, struct limit *limit, struct 
     free(tiles.sums);
     for (int k = 0; k < count; k++)
         centre(steep, &out[k]);
-    return count;
+    return has_room ? count : -1;
 }

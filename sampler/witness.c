@@ -249,17 +249,13 @@ double bend(const struct plane *plane, const struct layout *layout, int rounds, 
 
 /* ---- How well edges lie where they should */
 
-double mean_contrast(const struct plane *plane, const struct layout *layout, const struct warp *warp) {
-    struct edge edges[MOST_LOOKED_AT];
-    return mean_of(edges, look_at(plane, layout, EVERYWHERE, warp, edges));
-}
-
 struct support support_of(const struct plane *plane, const struct layout *layout, const struct warp *warp,
-                          double least) {
+                          double least, double share) {
     struct edge edges[MOST_LOOKED_AT];
     int count = look_at(plane, layout, EVERYWHERE, warp, edges), clear = 0, near = 0;
+    double mean = mean_of(edges, count), most = fmax(least, share * mean);
     for (int k = 0; k < count; k++)
-        if (edges[k].contrast >= least)
+        if (edges[k].contrast >= most)
             clear++, near += fabs(edges[k].offset) < NEAR;
-    return (struct support){(double)clear / (count > 0 ? count : 1), (double)near / (clear > 0 ? clear : 1)};
+    return (struct support){mean, (double)clear / (count > 0 ? count : 1), (double)near / (clear > 0 ? clear : 1)};
 }

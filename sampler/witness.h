@@ -20,15 +20,12 @@ double refine(const struct plane *plane, const struct layout *layout, struct par
  * they should be, before the last round. */
 double bend(const struct plane *plane, const struct layout *layout, int rounds, struct warp *warp);
 
-/* The mean contrast of all edges of a layout. */
-double mean_contrast(const struct plane *plane, const struct layout *layout, const struct warp *warp);
-
-/* The share of a layout's edges that are clear, and of these the share that are where they should be: by chance, a
- * third. */
+/* The mean contrast of a layout's edges, the share of them that are clear, and of these the share that are where they
+ * should be: by chance, a third. Those are clear that have this contrast at least, and this share of the mean. */
 struct support {
-    double clear, near;
+    double mean, clear, near;
 };
 struct support support_of(const struct plane *plane, const struct layout *layout, const struct warp *warp,
-                          double least);
+                          double least, double share);
 
 #endif

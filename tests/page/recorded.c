@@ -50,8 +50,7 @@ static uint16_t recorded_read(const uint8_t *modules, size_t count, const uint8_
     memset(out, FILLED, sizeof *out);
     uint16_t code = ecc200_read(modules, count, doubtful, doubtful_count, scan, out);
     head made = {"ecc200_read", {0}, {0}, {1, 1, 0}, 0, {0}, code, sizeof *out};
-    record(made, (input){modules, 1, count}, (input){doubtful, 1, doubtful_count}, (input){scan, sizeof *scan, 1},
-           out);
+    record(made, (input){modules, 1, count}, (input){doubtful, 1, doubtful_count}, (input){scan, sizeof *scan, 1}, out);
     return code;
 }
 
@@ -60,8 +59,7 @@ static uint16_t recorded_normal(const uint8_t *modules, size_t count, const uint
     memset(out, FILLED, sizeof *out);
     uint16_t code = ecc200_normal(modules, count, doubtful, doubtful_count, scan, profile, out);
     head made = {"ecc200_normal", {0}, {0}, {1, 1, 0}, 1, {profile}, code, sizeof *out};
-    record(made, (input){modules, 1, count}, (input){doubtful, 1, doubtful_count}, (input){scan, sizeof *scan, 1},
-           out);
+    record(made, (input){modules, 1, count}, (input){doubtful, 1, doubtful_count}, (input){scan, sizeof *scan, 1}, out);
     return code;
 }
 

@@ -152,6 +152,14 @@ class Hard:
             side, count, _ = sizes()[at]
             self.says(f"side {side}", waved(grid_of(message_of(count)), 6, 0.4, 0.3, at), message_of(count))
 
+    def test_crumpled_steep(self):
+        """In steep waves, which nets follow where they grow all around, or where they are surest."""
+        for at in (8, 12):
+            side, count, _ = sizes()[at]
+            for right, down in ((0.9, 0), (0.75, 0.65)):
+                self.says(f"side {side}, {right} and {down}", waved(grid_of(message_of(count)), 6, right, down, at),
+                          message_of(count))
+
     def lies_upright(self, name, rows, turns, quiet):
         """That the corners of a symbol lie about where they do in a picture that was turned so often."""
         told = json.loads(run([self.sampler, "--json"], pgm(rows)).stdout or b"{}").get("corners", [])

@@ -75,7 +75,7 @@ static int is_kept(int has_one_meaning_now) {
     struct plane plane = {.width = WIDE, .height = HIGH, .stride = WIDE, .pixels = pixels};
     struct extent extent = {SIDE, SIDE};
     struct warp warp = {.to_picture = {{{SCALE, 0, QUIET * SCALE}, {0, SCALE, QUIET * SCALE}, {0, 0, 1}}}};
-    struct lie lie;
+    struct lie lie = {.region = extent, .warps = {warp}};
     struct brightnesses brightnesses;
     list_shapes(&layouts);
     const struct layout *layout = layout_of(&layouts, extent);
@@ -87,7 +87,8 @@ static int is_kept(int has_one_meaning_now) {
     has_one_meaning = has_one_meaning_now, readings = 0;
     judge.picture = judge.smooth = &plane, judge.layouts = &layouts, judge.limit = &limit, judge.trial = &trial;
     struct trials trials = {&judge, layout, &warp, &best, -1, 1, false};
-    try_known_damage(&trials, &lie, &brightnesses);
+    sample_modules(&plane, layout, &lie, &brightnesses);
+    try_known_damage(&trials, &brightnesses);
     layouts_free(&layouts);
     return trials.best_cost >= 0 && readings > 1;
 }

@@ -49,9 +49,7 @@ static int module_of(const struct drawing *drawing, int row, int column, int cha
     switch (drawing->kind) {
     case CHECKS: return (row + column) % 2;
     case BARS: return row == 0 ? chance : drawing->dark[column];
-    case RINGS:
-        ring = ring_at(drawing, row, column);
-        return ring < 0 ? chance : ring;
+    case RINGS: ring = ring_at(drawing, row, column); return ring < 0 ? chance : ring;
     case STROKES: return row % 8 < 6 && column % 5 < 4 && (row % 8 % 5 == 0 || column % 5 % 3 == 0 ? chance : 0);
     case BORDER:
         return column == 0 || row == last_row ? 1
@@ -176,9 +174,9 @@ static int search_one(uint64_t number, uint16_t effort, int is_of_any_form) {
     state = number * 0x9E3779B97F4A7C15u + 0x2545F4914F6CDD1Du, next(), next();
     was.item_count = 0, drawing.kind = CHANCE;
     struct view view;
-    enum sort sort = is_of_any_form                                       ? OF_ANY_FORM
+    enum sort sort = is_of_any_form                                     ? OF_ANY_FORM
                      : number % 2 == 1 || !draw_damaged(&drawing, &was) ? WITHOUT
-                                                                          : DAMAGED;
+                                                                        : DAMAGED;
     if (sort == OF_ANY_FORM) {
         view = thin(pixels);
     } else {

@@ -1,8 +1,10 @@
 """Pictures of every size and format, turned, mirrored and inverted, and photographs of which some must be read."""
+import functools
 import importlib.util
 import json
 import math
 import os
+import tempfile
 
 from tests.sampler import pngs
 from tests.sampler.pictures import (CAREFUL, PYTHON, grid_of, message_of, pgm, pixels_of, record, run, sizes, turned)
@@ -19,15 +21,24 @@ def corners_near(said, wanted, apart):
                                  for one, other in zip(here, there))
 
 
-def the_set(case, folder, words):
-    """Fifty pictures and two with several symbols: none is read wrong, and LEAST_SHARE are read. `words` call it."""
+@functools.cache
+def photographs():
+    """Makes fifty pictures and two with several symbols, once for all samplers: their folder, and how that ended."""
+    room = tempfile.TemporaryDirectory(prefix="photographs-")
+    words = [PYTHON, places.path("bench", "photographs"), "--program", PROGRAM, "--share", "13"]
+    return room, run([*words, os.path.join(room.name, "set")]).returncode
+
+
+def the_set(case, words):
+    """Of these pictures none is read wrong, and LEAST_SHARE of their symbols are read. `words` call the sampler."""
     if not os.path.isfile(PROGRAM):
         case.leave_out("fifty photographs (the program that makes their symbols isn't built)")
         return
-    made = os.path.join(folder, "set")
-    if run([PYTHON, places.path("bench", "photographs"), "--program", PROGRAM, "--share", "13", made]).returncode:
+    room, status = photographs()
+    if status:
         case.leave_out("fifty photographs (python3-opencv and python3-numpy aren't installed)")
         return
+    made = os.path.join(room.name, "set")
     index = json.loads(places.text_of(made, "index.json"))
     symbols = right = 0
     for picture in index:
@@ -158,4 +169,4 @@ class Reading:
                          (0, True, b""))
 
     def test_the_set(self):
-        the_set(self, self.room, [self.sampler])
+        the_set(self, [self.sampler])

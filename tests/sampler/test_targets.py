@@ -48,4 +48,4 @@ class Targets(Rows):
         self.skip_for(lacking(target))
         program = os.path.join(self.built(ARM)[0], "dm_sample")
         self.skip_for(not os.path.isfile(program) and "libpng-dev:arm64 or libjpeg-dev:arm64 isn't installed")
-        the_set(self, self.folder(), [*target.emulator, program])
+        the_set(self, [*target.emulator, program])

@@ -57,7 +57,7 @@ static int is_followed(struct hidden hidden) {
     list_shapes(&shapes);
     draw(hidden, pixels);
     if (!plane_smooth(&picture, &limit, &grey) ||
-        !plane_darken(&grey, (struct surroundings){8, 2, false}, &limit, &dark))
+        !plane_darken(&grey, (struct surroundings){8, 2, false, 0}, &limit, &dark))
         return 0;
     int count = placements_of(&(struct scene){&grey, &dark, &limit}, &shapes, &elbow, out);
     plane_free(&grey);
