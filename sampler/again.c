@@ -29,12 +29,12 @@ static bool turn_to(struct search *search, const struct plane *picture) {
 /* Searches what a picture was made into, of which `scale` pixels are one of it, for symbols that weren't found. What
  * isn't read there may be no symbol, and isn't told. `is_alike`: whether only what is faint looks otherwise. The plane
  * is freed. */
-static void search_remade(struct search *search, struct plane *remade, int scale, bool is_alike) {
+static void search_remade(struct search *search, struct plane *remade, int scale, enum look look, bool is_alike) {
     size_t room_for_unread = search->judge.unread.room;
     scale_symbols(search->found, search->count, scale);
     search->judge.unread.room = 0;
     if (turn_to(search, remade))
-        search_picture(search, remade, true, is_alike);
+        search_picture(search, remade, look, is_alike);
     else
         plane_free(remade);
     scale_symbols(search->found, search->count, 1.0 / scale);
@@ -81,9 +81,10 @@ static const struct {
     int scale;
     int percent, most_pixels; /* percent of the usual work */
     bool is_for_drawings, is_for_more; /* of drawings only; also where something has been found */
-} LOOKS[] = {{compare, 1, 50, INT32_MAX, false, true},
-             {compare_doubled, 2, 30, MOST_DOUBLED, false, false},
-             {join_dots, JOINED, 50, MOST_JOINED, true, false}};
+    enum look look;
+} LOOKS[] = {{compare, 1, 50, INT32_MAX, false, true, REMADE},
+             {compare_doubled, 2, 30, MOST_DOUBLED, false, false, REMADE_FOR_NETS},
+             {join_dots, JOINED, 50, MOST_JOINED, true, false, REMADE}};
 
 /* Looks at a picture in one of these ways, if it is of those. */
 static void look_again(struct search *search, const struct plane *picture, size_t k) {
@@ -98,7 +99,7 @@ static void look_again(struct search *search, const struct plane *picture, size_
     bool is_alike = false, is_made = LOOKS[k].make(picture, limit, &remade, &is_alike);
     note_lack(search, is_made);
     if (is_made)
-        search_remade(search, &remade, LOOKS[k].scale, is_alike);
+        search_remade(search, &remade, LOOKS[k].scale, LOOKS[k].look, is_alike);
 }
 
 void search_anew(struct search *search, const struct plane *picture) {

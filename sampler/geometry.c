@@ -31,18 +31,12 @@ struct homography compose(const struct homography *outer, const struct homograph
     return out;
 }
 
-static void swap_rows(double *a, double *b, int n, int one, int other) {
-    for (int column = 0; column < n; column++) {
-        double kept = a[one * n + column];
-        a[one * n + column] = a[other * n + column];
-        a[other * n + column] = kept;
-    }
-    double kept = b[one];
-    b[one] = b[other];
-    b[other] = kept;
+static void swap(double *one, double *other) {
+    double kept = *one;
+    *one = *other, *other = kept;
 }
 
-bool solve(double *a, double *b, int n) {
+bool solve_all(double *a, double *b, int n, int sides) {
     for (int pivot = 0; pivot < n; pivot++) {
         int best = pivot;
         for (int row = pivot + 1; row < n; row++)
@@ -50,16 +44,20 @@ bool solve(double *a, double *b, int n) {
                 best = row;
         if (!(fabs(a[best * n + pivot]) > 1e-12))
             return false;
-        swap_rows(a, b, n, pivot, best);
+        for (int k = 0; k < n && best != pivot; k++)
+            swap(&a[pivot * n + k], &a[best * n + k]);
+        for (int k = 0; k < sides && best != pivot; k++)
+            swap(&b[k * n + pivot], &b[k * n + best]);
         for (int row = 0; row < n; row++) {
             double factor = row == pivot ? 0 : a[row * n + pivot] / a[pivot * n + pivot];
             for (int column = pivot; column < n && factor != 0; column++)
                 a[row * n + column] -= factor * a[pivot * n + column];
-            b[row] -= factor * b[pivot];
+            for (int k = 0; k < sides; k++)
+                b[k * n + row] -= factor * b[k * n + pivot];
         }
     }
-    for (int row = 0; row < n; row++)
-        b[row] /= a[row * n + row];
+    for (int k = 0; k < sides * n; k++)
+        b[k] /= a[k % n * n + k % n];
     return true;
 }
 

@@ -18,7 +18,7 @@ static const double CURVED = 4;                  /* how much a net is held back 
 static const double LEAST_NEAR = 0.55;           /* of the clear edges of the first knots */
 static const double FIRST = -0.27, APART = 0.18; /* modules: where the points of a module are */
 
-enum { PLANE = 3, MOST_TERMS = 6 };
+enum { PLANE = 3, MOST_TERMS = 6, PRODUCTS = 15 };
 
 /* How a net grows: how far the first knots reach; by how many terms those around a knot tell its place; the work of a
  * knot; of the contrast of the first knots, how much an edge has at least; and how near to its place one is, in
@@ -45,29 +45,49 @@ static bool is_in_reach(int x, int y) {
     return x >= -NET_REACH && y >= -NET_REACH && x <= NET_REACH && y <= NET_REACH;
 }
 
-/* By the plane through the knots around it, or a surface that is held back from curving. False if these don't tell. */
-static bool place_by_others(const struct net *net, int x, int y, struct place *out) {
-    double matrices[2][MOST_TERMS * MOST_TERMS] = {{0}}, *matrix = matrices[0], sums[2][MOST_TERMS] = {{0}};
-    int count = net->manner->terms;
+/* Sums over the knots around one, of products of how far each is to the right and below: 1, x, y, xx, xy, yy and so on
+ * to the fourth degree; and of the first of them with where each lies. */
+struct sums {
+    double products[PRODUCTS], x[MOST_TERMS], y[MOST_TERMS];
+};
+
+static void add_up(const struct net *net, int x, int y, struct sums *out) {
+    static const double weights[] = {0, 1, 1.0 / 2, 1.0 / 3, 1.0 / 4}; /* by how weak a knot is */
     for (int down = -AROUND; down <= AROUND; down++)
         for (int right = -AROUND; right <= AROUND; right++) {
             int knot = knot_at(x + right, y + down);
             if (!is_in_reach(x + right, y + down) || net->is_weak[knot] == 0)
                 continue;
-            double terms[MOST_TERMS] = {1, right, down, right * right, right * down, down * down},
-                   weight = 1.0 / net->is_weak[knot];
-            for (int k = 0; k < count; k++) {
-                sums[0][k] += weight * terms[k] * net->at[knot].x, sums[1][k] += weight * terms[k] * net->at[knot].y;
-                for (int j = 0; j < count; j++)
-                    matrix[count * k + j] += weight * terms[k] * terms[j];
+            double a = right, b = down, aa = a * a, ab = a * b, bb = b * b, weight = weights[net->is_weak[knot]];
+            double products[PRODUCTS] = {1,      a,      b,       aa,      ab,      bb,      aa * a, aa * b,
+                                         a * bb, b * bb, aa * aa, aa * ab, aa * bb, ab * bb, bb * bb};
+            for (int k = 0; k < PRODUCTS; k++)
+                out->products[k] += weight * products[k];
+            for (int k = 0; k < MOST_TERMS; k++) {
+                out->x[k] += weight * products[k] * net->at[knot].x;
+                out->y[k] += weight * products[k] * net->at[knot].y;
             }
         }
-    for (int k = PLANE; k < count; k++)
-        matrix[count * k + k] += CURVED;
-    memcpy(matrices[1], matrices[0], sizeof matrices[0]);
-    bool is_told = solve(matrices[0], sums[0], count) && solve(matrices[1], sums[1], count);
-    *out = (struct place){point_at(sums[0][0], sums[1][0]), point_at(sums[0][1], sums[1][1]),
-                          point_at(sums[0][2], sums[1][2])};
+}
+
+/* By the plane through the knots around it, or a surface that is held back from curving. False if these don't tell. */
+static bool place_by_others(const struct net *net, int x, int y, struct place *out) {
+    static const uint8_t product_of[MOST_TERMS][MOST_TERMS] = {{0, 1, 2, 3, 4, 5},    {1, 3, 4, 6, 7, 8},
+                                                               {2, 4, 5, 7, 8, 9},    {3, 6, 7, 10, 11, 12},
+                                                               {4, 7, 8, 11, 12, 13}, {5, 8, 9, 12, 13, 14}};
+    double matrix[MOST_TERMS * MOST_TERMS], sides[2 * MOST_TERMS];
+    int count = net->manner->terms;
+    struct sums sums = {0};
+    add_up(net, x, y, &sums);
+    for (int k = 0; k < count; k++) {
+        for (int j = 0; j < count; j++)
+            matrix[count * k + j] = sums.products[product_of[k][j]];
+        matrix[count * k + k] += k < PLANE ? 0 : CURVED;
+        sides[k] = sums.x[k], sides[count + k] = sums.y[k];
+    }
+    bool is_told = solve_all(matrix, sides, count, 2);
+    *out = (struct place){point_at(sides[0], sides[count]), point_at(sides[1], sides[count + 1]),
+                          point_at(sides[2], sides[count + 2])};
     return is_told;
 }
 

@@ -39,7 +39,7 @@ static bool fill(struct search *search, const struct plane *picture, ecc200_samp
         judge->least_side = asked->least_side, judge->margin = asked->margin;
         judge->places = &search->places, judge->limit = &limit, judge->trial = trial;
         judge->unread.is_refused_only = is_refused_only;
-        search_picture(search, picture, false, false);
+        search_picture(search, picture, AS_IT_IS, false);
         search_anew(search, picture);
         drop_read(&judge->unread, search->found, search->count);
         judge->has_no_memory |= !put_in_order(search->found, search->count, trial);

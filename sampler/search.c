@@ -311,16 +311,18 @@ static void search_deeply(struct search *search) {
     search_nets(search);
 }
 
-void search_picture(struct search *search, const struct plane *picture, bool is_remade, bool is_alike) {
+void search_picture(struct search *search, const struct plane *picture, enum look look, bool is_alike) {
     struct sight *plain = &search->sights[0], *inverted = &search->sights[1];
     plain->picture = *picture, inverted->is_inverted = true;
-    search->by = is_remade ? OF_REMADE : WIDE, search->seeds.count = 0;
+    search->by = look == AS_IT_IS ? WIDE : OF_REMADE, search->seeds.count = 0;
     search->by.most_contrast = is_alike ? MOST_OF_FAINT : 0;
     search->most_steep = is_alike ? STEEPEST_OF_FAINT : UINT8_MAX;
     note_lack(search, make_levels(plain, search->judge.limit));
     search_clearly(search);
-    if (!is_remade && !is_over(search))
+    if (look == AS_IT_IS && !is_over(search))
         search_deeply(search);
+    else if (look == REMADE_FOR_NETS)
+        search_nets(search);
     sight_free(plain);
     sight_free(inverted);
     elbows_free(&search->calm);

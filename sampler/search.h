@@ -72,9 +72,13 @@ void search_lattices(struct search *search, const struct sight *sight, const str
  * in which nothing else has been found. */
 void search_nets(struct search *search);
 
-/* Searches a picture, and frees it if it is owned: for all that it shows clearly, and, unless it is what a picture was
- * made into, for all that can be made out as well. `is_alike`: whether what isn't faint was seen before as it is. */
-void search_picture(struct search *search, const struct plane *picture, bool is_remade, bool is_alike);
+/* What a picture is searched for: what it was made of another one for, or all that can be made out. */
+enum look { AS_IT_IS, REMADE, REMADE_FOR_NETS };
+
+/* Searches a picture, and frees it if it is owned: for all that it shows clearly, and as it is for all that can be made
+ * out as well; where it is remade for nets, by these too. `is_alike`: whether what isn't faint was seen before as it
+ * is. */
+void search_picture(struct search *search, const struct plane *picture, enum look look, bool is_alike);
 
 /* Searches once more what the picture can be made into that shows more than it does itself. Why the search ended is
  * told of the picture as it is. */

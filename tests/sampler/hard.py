@@ -153,12 +153,12 @@ class Hard:
             self.says(f"side {side}", waved(grid_of(message_of(count)), 6, 0.4, 0.3, at), message_of(count))
 
     def test_crumpled_steep(self):
-        """In steep waves, which nets follow where they grow all around, or where they are surest."""
-        for at in (8, 12):
+        """In steep waves, which nets follow all around or where they are surest; of small modules, where doubled."""
+        for at, right, down, scale in ((8, 0.9, 0, 6), (8, 0.75, 0.65, 6), (12, 0.9, 0, 6), (12, 0.75, 0.65, 6),
+                                       (12, 0.75, 0.65, 4)):
             side, count, _ = sizes()[at]
-            for right, down in ((0.9, 0), (0.75, 0.65)):
-                self.says(f"side {side}, {right} and {down}", waved(grid_of(message_of(count)), 6, right, down, at),
-                          message_of(count))
+            rows = waved(grid_of(message_of(count)), scale, right, down, at)
+            self.says(f"side {side}, {right} and {down}, {scale} pixels", rows, message_of(count))
 
     def lies_upright(self, name, rows, turns, quiet):
         """That the corners of a symbol lie about where they do in a picture that was turned so often."""
@@ -183,8 +183,7 @@ class Hard:
         scale, turn, reach = 5, 0.1 + math.pi / 4, 12
         path = [(round(math.cos(turn) * (step - reach / 2)), round(math.sin(turn) * (step - reach / 2)))
                 for step in range(reach + 1)]
-        for side, count, _ in (sizes()[at] for at in (3, 4, 6, 7, 8)):
-            message = message_of(count)
+        for side, message in ((sizes()[at][0], message_of(sizes()[at][1])) for at in (3, 4, 6, 7, 8)):
             self.says(f"side {side} moved", moved_along(pixels_of(grid_of(message), scale, 4), path), message)
 
     def test_craters(self):
