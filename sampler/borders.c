@@ -17,6 +17,9 @@ struct both {
 };
 
 static void sum_up(const struct field *field, struct both *both) {
+    for (int k = 0; k < MOST_FIELD; k++)
+        both->rows.dark[k][0] = both->rows.alternating[k][0] = both->columns.dark[k][0] =
+            both->columns.alternating[k][0] = 0;
     for (int y = 0; y < field->high; y++)
         for (int x = 0; x < field->wide; x++) {
             int dark = field->dark[y * MOST_FIELD + x];
@@ -142,7 +145,7 @@ static void look_at(const struct both *both, int x, int y, struct extent box, st
 }
 
 int find_borders(const struct field *field, const struct layouts *shapes, struct border *out, int room) {
-    struct both *both = calloc(1, sizeof *both);
+    struct both *both = malloc(sizeof *both);
     int count = 0;
     if (both == NULL)
         return -1;

@@ -1,5 +1,7 @@
 #include "field.h"
 
+#include <math.h>
+
 enum { MARGIN = 4, AROUND = 3, POINTS = 3 };
 static const double APART = 0.2; /* modules: how far the points of a module are from one another */
 
@@ -18,30 +20,47 @@ static int begin(int first, int last, int *count) {
     return (first + last - *count) / 2;
 }
 
-/* Writes the middle between the least and the most of the numbers around each, but for those below 0. */
-static void find_middles(const float *of, int wide, int high, float *middles) {
-    for (int y = 0; y < high; y++)
-        for (int x = 0; x < wide; x++) {
-            float least = of[y * MOST_FIELD + x], most = least;
-            for (int row = y - AROUND; row <= y + AROUND; row++)
-                for (int column = x - AROUND; column <= x + AROUND; column++) {
-                    if (row < 0 || column < 0 || row >= high || column >= wide || of[row * MOST_FIELD + column] < 0)
-                        continue;
-                    float here = of[row * MOST_FIELD + column];
-                    least = here < least ? here : least, most = here > most ? here : most;
-                }
-            middles[y * MOST_FIELD + x] = (least + most) / 2;
-        }
+/* The least and the most of numbers. */
+struct range {
+    float least[MOST_FIELD + 2 * AROUND], most[MOST_FIELD + 2 * AROUND];
+};
+
+static void begin_range(struct range *range) {
+    for (int x = 0; x < MOST_FIELD + 2 * AROUND; x++)
+        range->least[x] = INFINITY, range->most[x] = -1;
+}
+
+/* Widens ranges, those of a row or of places beside it, but for numbers below 0. In lanes. */
+static void widen(const float *restrict least, const float *restrict most, int wide, float *restrict to_least,
+                  float *restrict to_most) {
+    for (int x = 0; x < wide; x++) {
+        float lower = least[x] < 0 ? INFINITY : least[x];
+        to_least[x] = lower < to_least[x] ? lower : to_least[x];
+        to_most[x] = most[x] > to_most[x] ? most[x] : to_most[x];
+    }
+}
+
+/* The ranges of the squares around the numbers of a row. */
+static void find_ranges(const float *of, int wide, int high, int y, struct range *out) {
+    struct range rows;
+    int first = y > AROUND ? y - AROUND : 0, last = y + AROUND < high ? y + AROUND : high - 1;
+    begin_range(&rows);
+    begin_range(out);
+    for (int row = first; row <= last; row++)
+        widen(of + row * MOST_FIELD, of + row * MOST_FIELD, wide, rows.least + AROUND, rows.most + AROUND);
+    for (int k = 0; k <= 2 * AROUND; k++)
+        widen(rows.least + k, rows.most + k, wide, out->least, out->most);
 }
 
 void divide_field(const float *of, struct field *out) {
-    float middles[MOST_FIELD * MOST_FIELD];
-    find_middles(of, out->wide, out->high, middles);
-    for (int y = 0; y < out->high; y++)
+    struct range range;
+    for (int y = 0; y < out->high; y++) {
+        find_ranges(of, out->wide, out->high, y, &range);
         for (int x = 0; x < out->wide; x++) {
             float here = of[y * MOST_FIELD + x];
-            out->dark[y * MOST_FIELD + x] = here >= 0 && here < middles[y * MOST_FIELD + x];
+            out->dark[y * MOST_FIELD + x] = here >= 0 && here < (range.least[x] + range.most[x]) / 2;
         }
+    }
 }
 
 void sample_field(const struct plane *grey, const struct lattice *lattice, struct field *out, int *first_x,

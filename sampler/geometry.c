@@ -36,7 +36,8 @@ static void swap(double *one, double *other) {
     *one = *other, *other = kept;
 }
 
-bool solve_all(double *a, double *b, int n, int sides) {
+/* Solves for so many right sides, each n numbers. */
+static inline bool solve_sides(double *a, double *const *sides, int count, int n) {
     for (int pivot = 0; pivot < n; pivot++) {
         int best = pivot;
         for (int row = pivot + 1; row < n; row++)
@@ -44,21 +45,33 @@ bool solve_all(double *a, double *b, int n, int sides) {
                 best = row;
         if (!(fabs(a[best * n + pivot]) > 1e-12))
             return false;
-        for (int k = 0; k < n && best != pivot; k++)
-            swap(&a[pivot * n + k], &a[best * n + k]);
-        for (int k = 0; k < sides && best != pivot; k++)
-            swap(&b[k * n + pivot], &b[k * n + best]);
+        for (int column = 0; column < n && best != pivot; column++)
+            swap(&a[pivot * n + column], &a[best * n + column]);
+        for (int side = 0; side < count; side++)
+            swap(&sides[side][pivot], &sides[side][best]);
         for (int row = 0; row < n; row++) {
             double factor = row == pivot ? 0 : a[row * n + pivot] / a[pivot * n + pivot];
-            for (int column = pivot; column < n && factor != 0; column++)
+            if (factor == 0)
+                continue;
+            for (int column = pivot; column < n; column++)
                 a[row * n + column] -= factor * a[pivot * n + column];
-            for (int k = 0; k < sides; k++)
-                b[k * n + row] -= factor * b[k * n + pivot];
+            for (int side = 0; side < count; side++)
+                sides[side][row] -= factor * sides[side][pivot];
         }
     }
-    for (int k = 0; k < sides * n; k++)
-        b[k] /= a[k % n * n + k % n];
+    for (int row = 0; row < n; row++)
+        for (int side = 0; side < count; side++)
+            sides[side][row] /= a[row * n + row];
     return true;
+}
+
+bool solve(double *a, double *b, int n) {
+    return solve_sides(a, &b, 1, n);
+}
+
+bool solve_both(double *a, double *b, double *c, int n) {
+    double *sides[] = {b, c};
+    return solve_sides(a, sides, 2, n);
 }
 
 bool through(const struct point from[4], const struct point to[4], struct homography *out) {

@@ -61,12 +61,10 @@ struct homography compose(const struct homography *outer, const struct homograph
 /* The transformation that takes each of four points to its image, if there is one. */
 bool through(const struct point from[4], const struct point to[4], struct homography *out);
 
-/* Solves the n equations a x = b, row by row in a, which is overwritten, for so many sides b, one after another; each x
- * comes out in its b. */
-bool solve_all(double *a, double *b, int n, int sides);
+/* Solves the n equations a x = b, row by row in a, which is overwritten; x comes out in b. */
+bool solve(double *a, double *b, int n);
 
-static inline bool solve(double *a, double *b, int n) {
-    return solve_all(a, b, n, 1);
-}
+/* The same of a x = b and a y = c at once; y comes out in c. */
+bool solve_both(double *a, double *b, double *c, int n);
 
 #endif

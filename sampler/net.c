@@ -5,6 +5,7 @@
 #include <string.h>
 
 #include "field.h"
+#include "levels.h"
 
 enum { AROUND = 2, MOST_WEAK = 3, SETTLING = 3, POINTS = 4, QUARTERS = 4 };
 enum { SURE_ENOUGH = 9 }; /* not to be looked at again while it waits */
@@ -18,7 +19,7 @@ static const double CURVED = 4;                  /* how much a net is held back 
 static const double LEAST_NEAR = 0.55;           /* of the clear edges of the first knots */
 static const double FIRST = -0.27, APART = 0.18; /* modules: where the points of a module are */
 
-enum { PLANE = 3, MOST_TERMS = 6, PRODUCTS = 15 };
+enum { PLANE = 3, MOST_TERMS = 6 };
 
 /* How a net grows: how far the first knots reach; by how many terms those around a knot tell its place; the work of a
  * knot; of the contrast of the first knots, how much an edge has at least; and how near to its place one is, in
@@ -45,49 +46,46 @@ static bool is_in_reach(int x, int y) {
     return x >= -NET_REACH && y >= -NET_REACH && x <= NET_REACH && y <= NET_REACH;
 }
 
-/* Sums over the knots around one, of products of how far each is to the right and below: 1, x, y, xx, xy, yy and so on
- * to the fourth degree; and of the first of them with where each lies. */
-struct sums {
-    double products[PRODUCTS], x[MOST_TERMS], y[MOST_TERMS];
+/* The equations of least squares for where a knot lies, by so many terms of its place. */
+struct placing {
+    double matrix[MOST_TERMS * MOST_TERMS], right[MOST_TERMS], down[MOST_TERMS];
 };
 
-static void add_up(const struct net *net, int x, int y, struct sums *out) {
-    static const double weights[] = {0, 1, 1.0 / 2, 1.0 / 3, 1.0 / 4}; /* by how weak a knot is */
+/* Adds the knots around one. The matrix is symmetric, and whole powers of two make both halves exactly alike. */
+static inline void add_around(const struct net *net, int x, int y, int count, struct placing *out) {
     for (int down = -AROUND; down <= AROUND; down++)
         for (int right = -AROUND; right <= AROUND; right++) {
             int knot = knot_at(x + right, y + down);
             if (!is_in_reach(x + right, y + down) || net->is_weak[knot] == 0)
                 continue;
-            double a = right, b = down, aa = a * a, ab = a * b, bb = b * b, weight = weights[net->is_weak[knot]];
-            double products[PRODUCTS] = {1,      a,      b,       aa,      ab,      bb,      aa * a, aa * b,
-                                         a * bb, b * bb, aa * aa, aa * ab, aa * bb, ab * bb, bb * bb};
-            for (int k = 0; k < PRODUCTS; k++)
-                out->products[k] += weight * products[k];
-            for (int k = 0; k < MOST_TERMS; k++) {
-                out->x[k] += weight * products[k] * net->at[knot].x;
-                out->y[k] += weight * products[k] * net->at[knot].y;
+            double terms[MOST_TERMS] = {1, right, down, right * right, right * down, down * down},
+                   weight = 1.0 / net->is_weak[knot];
+            struct point at = net->at[knot];
+            for (int k = 0; k < count; k++) {
+                double term = weight * terms[k];
+                out->right[k] += term * at.x, out->down[k] += term * at.y;
+                for (int j = 0; j <= k; j++)
+                    out->matrix[count * k + j] += term * terms[j];
             }
         }
+    for (int k = 0; k < count; k++)
+        for (int j = k + 1; j < count; j++)
+            out->matrix[count * k + j] = out->matrix[count * j + k];
 }
 
 /* By the plane through the knots around it, or a surface that is held back from curving. False if these don't tell. */
 static bool place_by_others(const struct net *net, int x, int y, struct place *out) {
-    static const uint8_t product_of[MOST_TERMS][MOST_TERMS] = {{0, 1, 2, 3, 4, 5},    {1, 3, 4, 6, 7, 8},
-                                                               {2, 4, 5, 7, 8, 9},    {3, 6, 7, 10, 11, 12},
-                                                               {4, 7, 8, 11, 12, 13}, {5, 8, 9, 12, 13, 14}};
-    double matrix[MOST_TERMS * MOST_TERMS], sides[2 * MOST_TERMS];
+    struct placing of = {0};
     int count = net->manner->terms;
-    struct sums sums = {0};
-    add_up(net, x, y, &sums);
-    for (int k = 0; k < count; k++) {
-        for (int j = 0; j < count; j++)
-            matrix[count * k + j] = sums.products[product_of[k][j]];
-        matrix[count * k + k] += k < PLANE ? 0 : CURVED;
-        sides[k] = sums.x[k], sides[count + k] = sums.y[k];
-    }
-    bool is_told = solve_all(matrix, sides, count, 2);
-    *out = (struct place){point_at(sides[0], sides[count]), point_at(sides[1], sides[count + 1]),
-                          point_at(sides[2], sides[count + 2])};
+    if (count == PLANE)
+        add_around(net, x, y, PLANE, &of);
+    else
+        add_around(net, x, y, MOST_TERMS, &of);
+    for (int k = PLANE; k < count; k++)
+        of.matrix[count * k + k] += CURVED;
+    bool is_told = solve_both(of.matrix, of.right, of.down, count);
+    *out = (struct place){point_at(of.right[0], of.down[0]), point_at(of.right[1], of.down[1]),
+                          point_at(of.right[2], of.down[2])};
     return is_told;
 }
 
@@ -98,7 +96,7 @@ struct edge {
 };
 
 /* The levels along a line, at each step the sum of two places beside it. */
-static void find_levels(const struct plane *grey, struct point from, struct point step, struct point beside,
+static void look_across(const struct plane *grey, struct point from, struct point step, struct point beside,
                         int levels[SAMPLES]) {
     struct point to = sum(from, scale_by(step, SAMPLES)), one = sum(from, beside), other = difference(from, beside);
     bool is_inside = is_between_pixels(grey, one) && is_between_pixels(grey, other) &&
@@ -107,17 +105,21 @@ static void find_levels(const struct plane *grey, struct point from, struct poin
         levels[k] = in_fractions(brightness(grey, one) + brightness(grey, other));
     if (!is_inside)
         return;
-    int x = in_fractions(one.x - 0.5), y = in_fractions(one.y - 0.5), other_x = in_fractions(other.x - 0.5),
-        other_y = in_fractions(other.y - 0.5), right = in_fractions(step.x), down = in_fractions(step.y);
-    for (int k = 0; k < SAMPLES; k++, x += right, y += down, other_x += right, other_y += down)
-        levels[k] = level_between(grey, x, y) + level_between(grey, other_x, other_y);
+    struct places places;
+    int both[MOST_PLACES];
+    places.count = 0;
+    add_line(&places, grey, place_in_fractions(one), way_in_fractions(step), SAMPLES);
+    add_line(&places, grey, place_in_fractions(other), way_in_fractions(step), SAMPLES);
+    find_levels(grey, &places, both);
+    for (int k = 0; k < SAMPLES; k++)
+        levels[k] = both[k] + both[k + SAMPLES];
 }
 
 /* The edge near a place, across one way and along the other. */
 static struct edge edge_near(const struct plane *grey, struct point at, struct point across, struct point along) {
     int levels[SAMPLES], rises[2 * REACH + 1], best = 0;
     struct point from = sum(at, scale_by(across, -TICK * (REACH + HALF)));
-    find_levels(grey, from, scale_by(across, TICK), scale_by(along, BESIDE), levels);
+    look_across(grey, from, scale_by(across, TICK), scale_by(along, BESIDE), levels);
     for (int k = 0; k <= 2 * REACH; k++) {
         rises[k] = abs(levels[k + 2 * HALF] - levels[k]);
         best = rises[k] > rises[best] ? k : best;

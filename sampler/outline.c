@@ -4,7 +4,7 @@
 #include <stdlib.h>
 #include <string.h>
 
-enum { LEAST_STEPS = 40, MOST_STEPS = 1 << 20, MOST_PENDING = 64 };
+enum { LEAST_STEPS = 40, MOST_STEPS = 1 << 20, MOST_PENDING = 64, NO_WAY = 4 };
 enum { WORK_OF_A_STEP = 10, PIECES_AT_A_UNIT = 3 }; /* along an outline; of those that are passed over, to be joined */
 static const double BEND = 1.4; /* pixels by which a straight piece may leave its chord */
 
@@ -20,7 +20,8 @@ struct turn {
 
 struct tracing {
     const struct plane *dark;
-    uint8_t *seen;           /* for each pixel, whether its left side was passed on the way up */
+    uint8_t *seen;           /* for each pixel, in rows as long as those of `dark`, whether its left side was passed on
+                                the way up */
     struct turn *turns;      /* with both ends of the path */
     int count, turn_count, room;
     double least;
@@ -29,7 +30,7 @@ struct tracing {
 };
 
 /* Takes note of a turn of the path, or of its end. False if there is no memory. */
-static bool push(struct tracing *tracing, struct corner at) {
+static bool push(struct tracing *tracing, struct corner at, int step) {
     if (tracing->turn_count == tracing->room) {
         int room = tracing->room > 0 ? 2 * tracing->room : 1024;
         struct turn *turns = realloc(tracing->turns, (size_t)room * sizeof *turns);
@@ -37,7 +38,7 @@ static bool push(struct tracing *tracing, struct corner at) {
             return false;
         tracing->turns = turns, tracing->room = room;
     }
-    tracing->turns[tracing->turn_count++] = (struct turn){at, tracing->count};
+    tracing->turns[tracing->turn_count++] = (struct turn){at, step};
     return true;
 }
 
@@ -45,25 +46,28 @@ static bool push(struct tracing *tracing, struct corner at) {
  * y) upwards. Behind the last turn of the path the first one stands once more. */
 static bool trace(struct tracing *tracing, int x, int y) {
     ptrdiff_t row = (ptrdiff_t)tracing->dark->stride;
-    const int step_x[] = {0, 1, 0, -1}, step_y[] = {-1, 0, 1, 0}; /* up, right, down, left */
-    const ptrdiff_t step[] = {-row, 1, row, -1};
-    const ptrdiff_t left[] = {-row - 1, -row, 0, -1}, right[] = {-row, 0, -1, -row - 1}; /* the pixels ahead */
-    const uint8_t *at = pixel_of(tracing->dark, x, y + 1); /* the pixel to the lower right of the corner */
-    int at_x = x, at_y = y + 1;
-    unsigned way = 0;
-    tracing->count = tracing->turn_count = 0;
+    /* up, right, down, left: a step, and the pixels ahead on the left and on the right */
+    const struct {
+        int x, y;
+        ptrdiff_t step, left, right;
+    } ways[] = {{0, -1, -row, -row - 1, -row}, {1, 0, 1, -row, 0}, {0, 1, row, 0, -1}, {-1, 0, -1, -1, -row - 1}};
+    const uint8_t *start = pixel_of(tracing->dark, x, y + 1), *at = start; /* to the lower right of the corner */
+    struct corner corner = {x, y + 1};
+    unsigned way = 0, before = NO_WAY;
+    int count = 0;
+    tracing->turn_count = 0;
     do {
         if (way == 0)
-            tracing->seen[(size_t)(at_y - 1) * (size_t)tracing->dark->width + (size_t)at_x] = 1;
-        at_x += step_x[way], at_y += step_y[way], at += step[way];
-        unsigned next = at[left[way]] != 0 ? (way + 3) % 4 : at[right[way]] == 0 ? (way + 1) % 4 : way;
-        bool is_turn = next != way || tracing->count == 0;
-        if (is_turn && tracing->count < MOST_STEPS && !push(tracing, (struct corner){at_x, at_y}))
+            tracing->seen[at - tracing->dark->pixels - row] = 1;
+        corner.x += ways[way].x, corner.y += ways[way].y, at += ways[way].step;
+        unsigned next = at[ways[way].left] != 0 ? (way + 3) % 4 : at[ways[way].right] == 0 ? (way + 1) % 4 : way;
+        if (next != before && count < MOST_STEPS && !push(tracing, corner, count))
             return false;
-        tracing->count += tracing->count < MOST_STEPS, way = next;
-    } while (at_x != x || at_y != y + 1 || way != 0);
-    limit_spend(tracing->limit, WORK_OF_A_STEP * (int64_t)tracing->count);
-    return push(tracing, tracing->turns[0].at);
+        count += count < MOST_STEPS, before = way = next;
+    } while (at != start || way != 0);
+    tracing->count = count;
+    limit_spend(tracing->limit, WORK_OF_A_STEP * (int64_t)count);
+    return push(tracing, tracing->turns[0].at, count);
 }
 
 /* Sums over corners of a path. They are whole numbers, so none is rounded. */
@@ -147,20 +151,19 @@ static bool keep(struct lines *lines, struct line line) {
 }
 
 /* At which turn the path from one turn to another is farthest from its chord, and how far: between turns it is
- * straight, and nearer than at one of them. */
+ * straight, and nearer than at one of them. Twice the square of a picture's side is a number. */
 static double farthest(const struct tracing *tracing, int first, int last, int *where) {
     struct corner from = tracing->turns[first].at, to = tracing->turns[last].at;
-    int64_t chord_x = to.x - from.x, chord_y = to.y - from.y, most = 0;
+    int chord_x = to.x - from.x, chord_y = to.y - from.y, most = 0;
     bool is_closed = chord_x == 0 && chord_y == 0;
     *where = (first + last) / 2;
     for (int k = first + 1; k < last; k++) {
-        struct corner at = tracing->turns[k].at;
-        int64_t x = at.x - from.x, y = at.y - from.y, away = is_closed ? x * x + y * y : chord_x * y - chord_y * x;
-        away = away < 0 ? -away : away;
+        int x = tracing->turns[k].at.x - from.x, y = tracing->turns[k].at.y - from.y,
+            away = abs(is_closed ? x * x + y * y : chord_x * y - chord_y * x);
         if (away > most)
             most = away, *where = k;
     }
-    double chord = sqrt((double)(chord_x * chord_x + chord_y * chord_y));
+    double chord = sqrt((double)chord_x * chord_x + (double)chord_y * chord_y);
     return is_closed ? sqrt((double)most) : (double)most / chord;
 }
 
@@ -215,58 +218,80 @@ static bool continues(const struct strip *strip, const struct line *piece) {
            fabs(cross(strip->unit, behind)) < strip->apart && last > -0.5 * strip->whole && first < 1.5 * strip->whole;
 }
 
-/* The pixels in which pieces begin. */
-struct starts {
-    uint16_t *x, *y;
+/* Where pieces begin: of each band of so many pixels, across and down, a bit for each piece, in words. What lies outside
+ * of all is in the nearest. */
+enum { BAND = 32, BITS = 64 };
+struct bands {
     int count;
+    uint64_t *words;
+};
+struct starts {
+    struct bands across, down;
+    int words, count; /* of each band; of pieces */
 };
 
-/* Room for so many, and where these pieces begin. False if there is no memory. */
-static bool starts_make(const struct line *pieces, int count, struct starts *out) {
-    *out = (struct starts){malloc(2 * (size_t)count * sizeof *out->x), NULL, count};
-    if (out->x == NULL)
+static int band_at(const struct bands *bands, double at) {
+    return nearest_pixel(at / BAND, bands->count, 0);
+}
+
+static void add_start(const struct starts *starts, const struct bands *bands, double at, int piece) {
+    bands->words[band_at(bands, at) * starts->words + piece / BITS] |= (uint64_t)1 << piece % BITS;
+}
+
+/* Where so many pieces begin in a picture. False if there is no memory. */
+static bool starts_make(const struct line *pieces, int count, const struct plane *dark, struct starts *out) {
+    *out = (struct starts){{dark->width / BAND + 1, NULL}, {dark->height / BAND + 1, NULL}, count / BITS + 1, count};
+    size_t across = (size_t)out->across.count * (size_t)out->words, down = (size_t)out->down.count * (size_t)out->words;
+    out->across.words = calloc(across + down, sizeof *out->across.words);
+    if (out->across.words == NULL)
         return false;
-    out->y = out->x + count;
-    for (int k = 0; k < count; k++)
-        out->x[k] = (uint16_t)fmax(pieces[k].from.x, 0), out->y[k] = (uint16_t)fmax(pieces[k].from.y, 0);
+    out->down.words = out->across.words + across;
+    for (int k = 0; k < count; k++) {
+        add_start(out, &out->across, pieces[k].from.x, k);
+        add_start(out, &out->down, pieces[k].from.y, k);
+    }
     return true;
 }
 
-/* The pixels from one on, so many. What lies before the first is beyond the last, as numbers without a sign have it. */
+/* Bands that lie side by side. */
 struct range {
-    uint16_t first, span;
+    int first, last;
 };
 
-/* Those within reach of a place, and somewhat more. */
-static struct range range_around(double middle, double reach) {
-    enum { SLACK = 2, MOST_REACH = 16000 };
-    struct range all = {0, UINT16_MAX / 2};
-    return reach < MOST_REACH ? (struct range){(uint16_t)((int)(middle - reach) - SLACK),
-                                               (uint16_t)(2 * ((int)reach + SLACK) + 1)}
-                              : all;
+static struct range range_around(const struct bands *bands, double middle, double reach) {
+    return (struct range){band_at(bands, middle - reach), band_at(bands, middle + reach)};
 }
 
-static int is_within(struct range range, uint16_t at) {
-    return (uint16_t)(at - range.first) <= range.span;
+/* The bits of some bands, of one word. */
+static uint64_t bits_of(const struct starts *starts, const struct bands *bands, struct range range, int word) {
+    const uint64_t *here = bands->words + range.first * starts->words + word;
+    uint64_t all = 0;
+    for (int band = range.first; band <= range.last; band++, here += starts->words)
+        all |= *here;
+    return all;
 }
 
-/* The first piece from number k on that begins within reach of a strip, or little beyond it. They are looked at many
- * at a time. */
+static int lowest_bit(uint64_t bits) {
+    int at = 0;
+    for (; (bits & 255) == 0; bits >>= 8)
+        at += 8;
+    for (; (bits & 1) == 0; bits >>= 1)
+        at++;
+    return at;
+}
+
+/* The first piece from number k on that begins within reach of a strip, or little beyond it. */
 static int next_near(const struct starts *starts, const struct strip *strip, int k) {
-    enum { AT_A_TIME = 32 };
-    struct range across = range_around(strip->from.x, strip->reach.x),
-                 down = range_around(strip->from.y, strip->reach.y);
-    for (; k + AT_A_TIME <= starts->count; k += AT_A_TIME) {
-        const uint16_t *xs = starts->x + k, *ys = starts->y + k;
-        uint16_t are_near = 0;
-        for (int j = 0; j < AT_A_TIME; j++)
-            are_near |= is_within(across, xs[j]) & is_within(down, ys[j]);
-        if (are_near)
-            break;
+    struct range across = range_around(&starts->across, strip->from.x, strip->reach.x),
+                 down = range_around(&starts->down, strip->from.y, strip->reach.y);
+    uint64_t wanted = UINT64_MAX << k % BITS;
+    for (int word = k / BITS; word < starts->words; word++, wanted = UINT64_MAX) {
+        uint64_t near = bits_of(starts, &starts->down, down, word) & wanted;
+        near &= near != 0 ? bits_of(starts, &starts->across, across, word) : 0;
+        if (near != 0)
+            return word * BITS + lowest_bit(near);
     }
-    while (k < starts->count && !(is_within(across, starts->x[k]) && is_within(down, starts->y[k])))
-        k++;
-    return k;
+    return starts->count;
 }
 
 /* The line that one and the pieces behind it which continue it make up. */
@@ -291,13 +316,13 @@ static struct line joined_from(const struct lines *lines, const struct starts *s
 }
 
 /* Adds the lines that several pieces make up. False if there is no memory. */
-static bool join(struct lines *lines, struct limit *limit) {
+static bool join(struct lines *lines, const struct plane *dark, struct limit *limit) {
     if (lines->count == 0)
         return true;
     qsort(lines->items, (size_t)lines->count, sizeof *lines->items, by_length);
     int count = lines->count < MOST_LINES / 2 ? lines->count : MOST_LINES / 2;
     struct starts starts;
-    bool enough = starts_make(lines->items, count, &starts);
+    bool enough = starts_make(lines->items, count, dark, &starts);
     lines->count = count;
     for (int k = 0; k < count && enough && !limit_reached(limit); k++) {
         struct line joined = joined_from(lines, &starts, k);
@@ -305,7 +330,7 @@ static bool join(struct lines *lines, struct limit *limit) {
         if (joined.length > lines->items[k].length + 1)
             enough = keep(lines, joined);
     }
-    free(starts.x);
+    free(starts.across.words);
     qsort(lines->items, (size_t)lines->count, sizeof *lines->items, by_length);
     return enough;
 }
@@ -332,16 +357,16 @@ static int next_left_side(const struct plane *dark, int x, int y) {
 
 bool find_lines(const struct plane *dark, double least, struct limit *limit, struct lines *out) {
     struct tracing tracing = {.dark = dark, .least = least, .limit = limit, .lines = out};
-    tracing.seen = calloc((size_t)dark->width, (size_t)dark->height);
+    tracing.seen = calloc(dark->stride, (size_t)dark->height);
     bool enough = tracing.seen != NULL;
     out->count = 0;
     for (int y = 0; enough && y < dark->height && (y % 32 > 0 || !limit_reached(limit)); y++) {
         limit_spend(limit, dark->width / 4);
         for (int x = next_left_side(dark, 0, y); enough && x < dark->width; x = next_left_side(dark, x + 1, y))
-            enough = tracing.seen[(size_t)y * (size_t)dark->width + (size_t)x] ||
+            enough = tracing.seen[(size_t)y * dark->stride + (size_t)x] ||
                      (trace(&tracing, x, y) && (tracing.count < LEAST_STEPS || cut(&tracing)));
     }
     free(tracing.seen);
     free(tracing.turns);
-    return enough && join(out, limit);
+    return enough && join(out, dark, limit);
 }

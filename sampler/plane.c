@@ -337,97 +337,112 @@ bool plane_close(const struct plane *from, int least, int most, struct limit *li
 
 /* ---- Darker than the surroundings: than the middle between the lightest and the darkest pixel of the tiles around. */
 
-struct range {
-    uint8_t least, most;
-};
-
-/* The least and the most of all tiles of a plane, row by row, then those of the squares of tiles around each, and room
- * for a row. */
-struct tiles {
-    struct surroundings by;
-    int across, down;
-    struct range *ranges, *squares, *columns;
-};
-
-static bool tiles_make(const struct plane *from, struct surroundings by, struct tiles *out) {
-    *out = (struct tiles){by, (from->width + by.tile - 1) / by.tile, (from->height + by.tile - 1) / by.tile, 0, 0, 0};
-    size_t across = (size_t)out->across, count = across * (size_t)out->down;
-    out->ranges = malloc((2 * count + across) * sizeof *out->ranges);
-    out->squares = out->ranges + count, out->columns = out->squares + count;
-    return out->ranges != NULL;
-}
-
-/* What a row of tiles shows in each column of pixels. */
-struct columns {
+/* The least and the most of each of some pixels or tiles. */
+struct ranges {
     uint8_t *least, *most;
 };
 
-/* Takes a row of pixels into what the columns show. In lanes, so it says that nothing overlaps. */
-static void widen(const uint8_t *restrict row, int width, uint8_t *restrict least, uint8_t *restrict most) {
-    for (int x = 0; x < width; x++) {
-        least[x] = least_of(row[x], least[x]);
-        most[x] = most_of(row[x], most[x]);
+/* The ranges of all tiles of a plane, row by row, those of the squares of tiles around each, and room for a row of tiles
+ * with as many on both sides as squares reach, and for two rows of pixels. */
+struct tiles {
+    struct surroundings by;
+    int across, down;
+    struct ranges each, squares, row, columns;
+    uint8_t *owned;
+};
+
+/* Takes two times so many bytes of what is owned. */
+static struct ranges take_room(uint8_t **room, size_t count) {
+    struct ranges ranges = {*room, *room + count};
+    *room += 2 * count;
+    return ranges;
+}
+
+static bool tiles_make(const struct plane *from, struct surroundings by, struct tiles *out) {
+    *out = (struct tiles){.by = by,
+                          .across = (from->width + by.tile - 1) / by.tile,
+                          .down = (from->height + by.tile - 1) / by.tile};
+    size_t across = (size_t)out->across, count = across * (size_t)out->down, row = across + 2 * (size_t)by.around,
+           columns = across * (size_t)by.tile;
+    uint8_t *room = out->owned = malloc(2 * (2 * count + row + 2 * columns));
+    if (room == NULL)
+        return false;
+    out->each = take_room(&room, count), out->squares = take_room(&room, count);
+    out->row = take_room(&room, row), out->columns = take_room(&room, columns);
+    return true;
+}
+
+static struct ranges ranges_from(struct ranges ranges, size_t first) {
+    return (struct ranges){ranges.least + first, ranges.most + first};
+}
+
+static void empty(struct ranges ranges, size_t count) {
+    memset(ranges.least, 255, count);
+    memset(ranges.most, 0, count);
+}
+
+/* Widens ranges by others, or by pixels. In lanes, so it says that nothing overlaps. */
+static void widen(const uint8_t *restrict darkest, const uint8_t *restrict lightest, int count, uint8_t *restrict least,
+                  uint8_t *restrict most) {
+    for (int k = 0; k < count; k++) {
+        least[k] = least_of(darkest[k], least[k]);
+        most[k] = most_of(lightest[k], most[k]);
     }
 }
 
-static struct range both_of(struct range one, struct range other) {
-    return (struct range){least_of(one.least, other.least), most_of(one.most, other.most)};
-}
-
-/* The ranges of a row of tiles. */
-static void find_row(const struct plane *from, const struct tiles *tiles, int row, const struct columns *columns) {
+/* The ranges of a row of tiles: of its columns, and then of more and more of these, up to the first one for the
+ * lightest, and to the last one for the darkest. */
+static void find_row(const struct plane *from, const struct tiles *tiles, int row) {
     int side = tiles->by.tile, last = (row + 1) * side < from->height ? (row + 1) * side : from->height;
-    struct range *ranges = tiles->ranges + (size_t)row * (size_t)tiles->across;
-    size_t wide = (size_t)(tiles->across * side);
-    memset(columns->least, 255, wide);
-    memset(columns->most, 0, wide);
+    size_t wide = (size_t)tiles->across * (size_t)side;
+    struct ranges columns = tiles->columns, more = ranges_from(columns, 2 * wide),
+                  each = ranges_from(tiles->each, (size_t)row * (size_t)tiles->across);
+    empty(columns, wide);
     for (int y = row * side; y < last; y++)
-        widen(pixel_of(from, 0, y), from->width, columns->least, columns->most);
+        widen(pixel_of(from, 0, y), pixel_of(from, 0, y), from->width, columns.least, columns.most);
+    for (int away = side / 2; away > 0; away /= 2) {
+        struct ranges before = columns;
+        deepen(columns.least, wide, (size_t)away, more.least);
+        lighten(columns.most, wide, (size_t)away, more.most);
+        columns = more, more = before;
+    }
     for (int tile = 0; tile < tiles->across; tile++) {
-        ranges[tile] = (struct range){255, 0};
-        for (int x = tile * side; x < (tile + 1) * side; x++)
-            ranges[tile] = both_of(ranges[tile], (struct range){columns->least[x], columns->most[x]});
+        each.least[tile] = columns.least[(tile + 1) * side - 1];
+        each.most[tile] = columns.most[tile * side];
     }
 }
 
 static bool find_ranges(const struct plane *from, struct limit *limit, const struct tiles *tiles) {
-    size_t wide = (size_t)(tiles->across * tiles->by.tile);
-    uint8_t *room = malloc(2 * wide);
     int row = 0;
-    for (; room != NULL && row < tiles->down && leaves(limit, row * tiles->by.tile, from->width); row++)
-        find_row(from, tiles, row, &(struct columns){room, room + wide});
-    free(room);
+    for (; row < tiles->down && leaves(limit, row * tiles->by.tile, from->width); row++)
+        find_row(from, tiles, row);
     return row == tiles->down;
 }
 
-/* The range of some ranges, `step` after one another: of those from `first` to `last` that are there. */
-static struct range joined(const struct range *ranges, size_t step, int first, int last, int count) {
-    struct range all = {255, 0};
-    for (int k = first < 0 ? 0 : first; k <= last && k < count; k++)
-        all = both_of(all, ranges[(size_t)k * step]);
-    return all;
-}
-
-/* The ranges of the squares of tiles around all tiles. */
-static void join_squares(const struct tiles *tiles) {
+/* The ranges of the squares of tiles around those of a row. */
+static void join_row(const struct tiles *tiles, int row) {
+    int around = tiles->by.around, first = row > around ? row - around : 0,
+        last = row + around < tiles->down ? row + around : tiles->down - 1;
     size_t across = (size_t)tiles->across;
-    int around = tiles->by.around;
-    for (int row = 0; row < tiles->down; row++) {
-        for (size_t column = 0; column < across; column++)
-            tiles->columns[column] = joined(tiles->ranges + column, across, row - around, row + around, tiles->down);
-        for (int column = 0; column < tiles->across; column++)
-            tiles->squares[(size_t)row * across + (size_t)column] =
-                joined(tiles->columns, 1, column - around, column + around, tiles->across);
+    struct ranges middle = ranges_from(tiles->row, (size_t)around),
+                  squares = ranges_from(tiles->squares, (size_t)row * across);
+    empty(tiles->row, across + 2 * (size_t)around);
+    empty(squares, across);
+    for (int k = first; k <= last; k++) {
+        struct ranges each = ranges_from(tiles->each, (size_t)k * across);
+        widen(each.least, each.most, tiles->across, middle.least, middle.most);
     }
+    for (int k = 0; k <= 2 * around; k++)
+        widen(tiles->row.least + k, tiles->row.most + k, tiles->across, squares.least, squares.most);
 }
 
 /* The pixels of a tile below this are dark. */
 static uint8_t limit_of(const struct tiles *tiles, int row, int column) {
     const struct surroundings *by = &tiles->by;
-    struct range all = tiles->squares[(size_t)row * (size_t)tiles->across + (size_t)column];
-    int contrast = all.most - all.least;
+    size_t at = (size_t)row * (size_t)tiles->across + (size_t)column;
+    int least = tiles->squares.least[at], most = tiles->squares.most[at], contrast = most - least;
     bool is_clear = by->most_contrast > 0 && contrast > by->most_contrast;
-    return (uint8_t)(contrast < by->least_contrast || is_clear ? 0 : (all.most + all.least) / 2);
+    return (uint8_t)(contrast < by->least_contrast || is_clear ? 0 : (most + least) / 2);
 }
 
 /* Marks what is dark in a row of pixels, by a limit for each. */
@@ -462,12 +477,12 @@ bool plane_darken(const struct plane *from, struct surroundings by, struct limit
     bool has_room = tiles_make(from, by, &tiles);
     uint8_t *to = plane_make(from->width, from->height, 1, out), *limits = malloc((size_t)(tiles.across * by.tile));
     bool is_whole = has_room && to != NULL && limits != NULL && find_ranges(from, limit, &tiles);
-    if (is_whole)
-        join_squares(&tiles);
+    for (int row = 0; row < tiles.down && is_whole; row++)
+        join_row(&tiles, row);
     is_whole = is_whole && mark_dark(from, limit, &tiles, limits, to, out->stride);
     if (is_whole)
         lighten_frame(out, to);
     free(limits);
-    free(tiles.ranges);
+    free(tiles.owned);
     return is_made(is_whole, out);
 }

@@ -51,8 +51,8 @@ bool plane_close(const struct plane *from, int least, int most, struct limit *li
 /* How much each four pixels differ along the diagonals between them; kept as the upper left one's. */
 bool plane_steepen(const struct plane *from, struct limit *limit, struct plane *out);
 
-/* What a pixel is compared with, by squares of tiles of so many pixels each way: the square around its own tile, with
- * so many to each side; nothing is dark where it shows less contrast than so many levels of 255, or, if that isn't 0,
+/* What a pixel is compared with, by squares of tiles of so many pixels each way, a power of two: the square around its
+ * own tile, with so many to each side; nothing is dark where it shows less contrast than so many levels of 255, or, if that isn't 0,
  * more than so many. */
 struct surroundings {
     int tile, around, least_contrast, most_contrast;
@@ -93,23 +93,6 @@ static inline int grey_at(const struct plane *grey, struct point at) {
 /* Whether a point has the centre of a pixel on each side. */
 static inline bool is_between_pixels(const struct plane *plane, struct point at) {
     return at.x >= 0.5 && at.y >= 0.5 && at.x < plane->width - 0.5 && at.y < plane->height - 0.5;
-}
-
-/* Pixels, and levels of brightness, in whole numbers: so many are one. */
-enum { HALF_OF_BITS = 8, ONE_LEVEL = 1 << 2 * HALF_OF_BITS };
-
-static inline int in_fractions(double at) {
-    return (int)(at * ONE_LEVEL);
-}
-
-/* The brightness between the centres of pixels, of which this one lies at the upper left. */
-static inline int level_between(const struct plane *plane, int x, int y) {
-    enum { MOST = (1 << HALF_OF_BITS) - 1 };
-    const uint8_t *here = pixel_of(plane, x >> 2 * HALF_OF_BITS, y >> 2 * HALF_OF_BITS), *below = here + plane->stride;
-    int right = x >> HALF_OF_BITS & MOST, down = y >> HALF_OF_BITS & MOST;
-    int upper = (here[0] << HALF_OF_BITS) + right * (here[1] - here[0]),
-        lower = (below[0] << HALF_OF_BITS) + right * (below[1] - below[0]);
-    return (upper << HALF_OF_BITS) + down * (lower - upper);
 }
 
 /* The brightness at a point, between the centres of pixels by their distances; outside, that of the nearest pixel. */

@@ -49,16 +49,26 @@ static void ground_along(const struct plane *ground, int y, int halvings, uint16
     out[0] = out[1], out[ground->width + 1] = out[ground->width + 2] = out[ground->width];
 }
 
-/* A row as a share of the ground along it, which lies so many halvings apart, by the shares of a level of each. */
+/* How bright the ground is of the pixels of a row, by that along it, which lies so many halvings apart: of every pixel, or
+ * every other one from number `first` on. In lanes. */
+static void spread_ground(const uint16_t *restrict ground, int width, int halvings, int first, uint8_t *restrict to) {
+    int unit = 2 << halvings, at = 2 * first + 1 + unit / 2, count = (width - first + unit / 2 - 1) >> halvings;
+    uint16_t right = (uint16_t)(at & (unit - 1)), left = (uint16_t)(unit - right);
+    const uint16_t *here = ground + (at >> (halvings + 1));
+    for (int x = 0; x < count; x++)
+        to[x] = (uint8_t)((uint16_t)(here[x] * left + here[x + 1] * right) >> 2 * (halvings + 1));
+}
+
+/* A row as a share of the ground along it, by the shares of a level of each. `levels` has room for a row. */
 static void compare_row(const uint8_t *row, int width, const uint16_t *ground, int halvings, const uint32_t *shares,
-                        uint8_t *to) {
-    int unit = 2 << halvings;
-    for (int x = 0; x < width; x++) {
-        int at = 2 * x + 1 + unit / 2, right = at & (unit - 1);
-        const uint16_t *here = ground + (at >> (halvings + 1));
-        int level = (here[0] * (unit - right) + here[1] * right) >> 2 * (halvings + 1);
-        uint32_t share = (row[x] * shares[level]) >> FIXED;
-        to[x] = (uint8_t)(share > 255 ? 255 : share);
+                        uint8_t *levels, uint8_t *to) {
+    for (int first = 0; first < 1 << halvings; first++) {
+        const uint8_t *level = levels;
+        spread_ground(ground, width, halvings, first, levels);
+        for (int x = first; x < width; x += 1 << halvings) {
+            uint32_t share = (row[x] * shares[*level++]) >> FIXED;
+            to[x] = (uint8_t)(share > 255 ? 255 : share);
+        }
     }
 }
 
@@ -74,11 +84,13 @@ bool plane_compare(const struct plane *from, int gleam, struct limit *limit, str
         shares[level] = ((uint32_t)WHITE << FIXED) / (uint32_t)(level > LEAST_GROUND ? level : LEAST_GROUND);
     uint8_t *to = plane_make(from->width, from->height, 0, out);
     uint16_t *along = malloc(sizeof *along * ((size_t)ground.width + ENDS));
-    for (; to != NULL && along != NULL && y < from->height && leaves(limit, y, 3 * from->width);
+    uint8_t *levels = malloc((size_t)from->width);
+    for (; to != NULL && along != NULL && levels != NULL && y < from->height && leaves(limit, y, 3 * from->width);
          y++, to += out->stride) {
         ground_along(&ground, y, halvings, along);
-        compare_row(pixel_of(from, 0, y), from->width, along, halvings, shares, to);
+        compare_row(pixel_of(from, 0, y), from->width, along, halvings, shares, levels, to);
     }
+    free(levels);
     free(along);
     plane_free(&ground);
     return is_made(to != NULL && y == out->height, out);

@@ -12,11 +12,6 @@ struct tiles {
     uint32_t *sums;
 };
 
-static int steepness_at(const struct plane *steep, int x, int y) {
-    int here = *pixel_of(steep, x, y);
-    return here < MOST_STEEP ? here : MOST_STEEP;
-}
-
 /* Adds the columns of a row of tiles. In lanes. */
 static void add_rows(const struct plane *steep, int first, uint16_t *restrict columns) {
     memset(columns, 0, (size_t)steep->width * sizeof *columns);
@@ -61,19 +56,30 @@ static int within(int at, int count) {
     return at < 0 ? 0 : at > last ? last : at;
 }
 
+/* The sums of a row of a window, and of its pixels times twice how far right their middles are. In lanes. */
+static void sum_row(const uint8_t *row, int first, int count, int64_t *total, int64_t *right) {
+    int sum = 0, moment = 0;
+    for (int x = 0; x < count; x++) {
+        int here = row[x] < MOST_STEEP ? row[x] : MOST_STEEP;
+        sum += here, moment += here * (2 * x + 1);
+    }
+    *total += sum, *right += moment + (int64_t)2 * first * sum;
+}
+
 /* Moves a spot to the middle of what is steep in its window. */
 static void centre(const struct plane *steep, struct spot *spot) {
     for (int round = 0; round < ROUNDS; round++) {
-        double total = 0, right = 0, down = 0;
-        for (int y = spot->y; y < spot->y + WINDOW_SIDE && y < steep->height; y++)
-            for (int x = spot->x; x < spot->x + WINDOW_SIDE && x < steep->width; x++) {
-                int here = steepness_at(steep, x, y);
-                total += here, right += here * (x + 0.5), down += here * (y + 0.5);
-            }
+        int64_t total = 0, right = 0, down = 0;
+        int wide = spot->x + WINDOW_SIDE < steep->width ? WINDOW_SIDE : steep->width - spot->x;
+        for (int y = spot->y; y < spot->y + WINDOW_SIDE && y < steep->height; y++) {
+            int64_t before = total;
+            sum_row(pixel_of(steep, spot->x, y), spot->x, wide, &total, &right);
+            down += (total - before) * (2 * y + 1);
+        }
         if (total == 0)
             return;
-        spot->x = within((int)(right / total) - WINDOW_SIDE / 2, steep->width);
-        spot->y = within((int)(down / total) - WINDOW_SIDE / 2, steep->height);
+        spot->x = within((int)(right / 2.0 / (double)total) - WINDOW_SIDE / 2, steep->width);
+        spot->y = within((int)(down / 2.0 / (double)total) - WINDOW_SIDE / 2, steep->height);
     }
 }
 

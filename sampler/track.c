@@ -65,19 +65,33 @@ static int framed(int64_t at, int count) {
     return at < 0 ? -1 : at >> FRACTION < count ? (int)(at >> FRACTION) : count;
 }
 
+static inline int level_at(const struct plane *grey, bool is_inside, int64_t x, int64_t y) {
+    return is_inside ? *pixel_of(grey, (int)(x >> FRACTION), (int)(y >> FRACTION))
+                     : *pixel_of(grey, framed(x, grey->width), framed(y, grey->height));
+}
+
+/* The steps of a track. */
+static double step_of(double module) {
+    return module / 7 > 0.5 ? module / 7 : 0.5;
+}
+
+static double lesser(double one, double other) {
+    return one < other ? one : other;
+}
+
 /* Follows the turns of brightness along the track, of at least `least` in brightness, and counts those that come
  * evenly. Where a light module is sought, brightness is taken below 0. Returns how many steps it went. */
-static int follow(const struct plane *grey, struct track *track, double module, double longest, int least) {
+static inline int follow_where(const struct plane *grey, bool is_inside, struct track *track, double module,
+                               double longest, int least) {
     struct rhythm rhythm = {0};
-    double step = module / 7 > 0.5 ? module / 7 : 0.5, place = 0, still = still_from(&rhythm, module);
+    double step = step_of(module), place = 0, last = nextafter(longest, 0),
+           until = lesser(still_from(&rhythm, module), last);
     int sign = 1, extreme = 255, steps = 0;
     int64_t x = whole_of(track->from.x), y = whole_of(track->from.y), right = whole_of(step * track->along.x),
             down = whole_of(step * track->along.y);
-    bool is_inside = shows(grey, track->from) && shows(grey, sum(track->from, scale_by(track->along, longest + step)));
     track->darks = 0;
-    for (double way = 0; way < longest && way <= still; way += step, x += right, y += down, steps++) {
-        int here = sign * *(is_inside ? pixel_of(grey, (int)(x >> FRACTION), (int)(y >> FRACTION))
-                                      : pixel_of(grey, framed(x, grey->width), framed(y, grey->height)));
+    for (double way = 0; way <= until; way += step, x += right, y += down, steps++) {
+        int here = sign * level_at(grey, is_inside, x, y);
         if (here < extreme)
             extreme = here, place = way;
         if (here < extreme + least)
@@ -86,10 +100,17 @@ static int follow(const struct plane *grey, struct track *track, double module, 
             break;
         track->darks += sign > 0;
         sign = -sign, extreme = -here, place = way;
-        still = rhythm.bad < rhythm.good + 4 ? still_from(&rhythm, module) : way;
+        until = lesser(rhythm.bad < rhythm.good + 4 ? still_from(&rhythm, module) : way, last);
     }
     track->score = rhythm.good - 1.3 * rhythm.bad;
     return steps;
+}
+
+static int follow(const struct plane *grey, struct track *track, double module, double longest, int least) {
+    struct point end = sum(track->from, scale_by(track->along, longest + step_of(module)));
+    bool is_inside = shows(grey, track->from) && shows(grey, end);
+    return is_inside ? follow_where(grey, true, track, module, longest, least)
+                     : follow_where(grey, false, track, module, longest, least);
 }
 
 /* The share of dark pixels beside the track, outside of the symbol. */

@@ -4,6 +4,8 @@
 #include <stdlib.h>
 #include <string.h>
 
+#include "levels.h"
+
 /* An edge is looked for along a line across it, on which the picture is sampled TICK modules apart: the steepest place
  * within REACH ticks of where it should be, by the difference of the means of WINDOW ticks on both sides. */
 enum {
@@ -45,19 +47,28 @@ static bool is_inside(const struct plane *plane, const struct line_across *line)
            is_between_pixels(plane, difference(to, line->beside));
 }
 
-enum { PLACES = 3 };
+enum { ALONG = 3 };
 
-/* The brightness across an edge, at each tick the sum of PLACES along it. */
+/* The brightness across an edge, at each tick the sum of ALONG places beside one another, all between pixels. */
+static void profile_between(const struct plane *plane, const struct line_across *line, int profile[SAMPLES]) {
+    struct fractions from = place_in_fractions(line->from), step = way_in_fractions(line->step),
+                     beside = way_in_fractions(line->beside);
+    struct places places;
+    int levels[MOST_PLACES];
+    places.count = 0;
+    for (int along = -1; along <= 1; along++)
+        add_line(&places, plane, (struct fractions){from.x + along * beside.x, from.y + along * beside.y}, step, SAMPLES);
+    find_levels(plane, &places, levels);
+    for (int k = 0; k < SAMPLES; k++)
+        profile[k] = levels[k] + levels[k + SAMPLES] + levels[k + 2 * SAMPLES];
+}
+
 static void profile_of(const struct plane *plane, const struct warp *warp, const struct witness *witness,
                        int profile[SAMPLES]) {
     struct line_across line = line_across(warp, witness);
     struct point at = line.from, beside = line.beside;
     if (is_inside(plane, &line)) {
-        int x = in_fractions(at.x - 0.5), y = in_fractions(at.y - 0.5), right = in_fractions(line.step.x),
-            down = in_fractions(line.step.y), across = in_fractions(beside.x), along = in_fractions(beside.y);
-        for (int k = 0; k < SAMPLES; k++, x += right, y += down)
-            profile[k] = level_between(plane, x, y) + level_between(plane, x + across, y + along) +
-                         level_between(plane, x - across, y - along);
+        profile_between(plane, &line, profile);
         return;
     }
     for (int k = 0; k < SAMPLES; k++, at = sum(at, line.step))
@@ -89,7 +100,7 @@ static double offset_of(const int profile[SAMPLES], int darkens, double *offset)
         bend = curve < 0 ? 0.5 * (left - right) / curve : 0;
     }
     *offset = TICK * (best - REACH + bend);
-    return best == 0 || best == 2 * REACH ? 0 : rises[best] / ((double)PLACES * WINDOW * ONE_LEVEL);
+    return best == 0 || best == 2 * REACH ? 0 : rises[best] / ((double)ALONG * WINDOW * ONE_LEVEL);
 }
 
 /* The equations of least squares for the eight parameters of a small projective change, in coordinates from -0.5 to
