@@ -104,9 +104,7 @@ impl<W: Write + Drop> Sink for ToWrite<W> {
         if bytes.is_empty() {
             return Ok(taken);
         }
-        if taken == 0 {
-            return Err(failure(&mut self.failures));
-        }
+        demand_some(&mut self.failures, taken)?;
         self.pending = true;
         Ok(taken)
     }
@@ -124,6 +122,18 @@ impl<W: Write + Drop> Sink for ToWrite<W> {
 
     fn pending(&self) -> bool {
         self.pending
+    }
+}
+
+/// Counts a write of some bytes as a failure if it took none of them.
+fn demand_some(failures: &mut u64, taken: usize) -> Result<(), Failed>
+    ensures some { OnOk result (0 < taken) }
+    ensures none { OnErr result (taken ≡ 0) }
+    ensures count { Counts failures.old failures.new result }
+{
+    match taken {
+        0 => Err(failure(failures)),
+        _ => Ok(()),
     }
 }
 

@@ -8,7 +8,7 @@ marked zero mark e = cc
 marked (suc n) mark e = cond_below 0 (suc n) true mark (omega arith)
 
 pub returns-clause-some : goal.returns-clause-some
-returns-clause-some g c some = omega arith
+returns-clause-some g c some = c.in_ok-demand_some.ensures.some
 
 pub returns-clause-mark : goal.returns-clause-mark
 returns-clause-mark g c = marked _ c.args.self.now.pending c.if-is_empty.ensures
