@@ -5,7 +5,7 @@ of the crate as a function of its own, named as the edit is, beside the function
 the check is asked for these functions and what they call alone. A method of a trait can't stand beside itself, so its
 wrong body takes its place. Where an edit changes several functions, each one is tried by itself. A function is refused
 where something of its own is, and not only what it calls. Where must-fail/goals.md names a goal, that is its answer, or
-the search where the right body needs none, and no other goal is tried. The crates below are taken as proved last.
+the tactic that the right body needs alone, and no other goal is tried. The crates below are taken as proved last.
 
 Nothing else is proved in the copy, since tests/proofs does that: each other function is an endless loop there, and a
 hole stands for its proof and for that of each lemma. The check goes on past it, so that a lemma is taken by what it
@@ -39,13 +39,15 @@ OPENS_FUNCTION = r"( *)(?:pub(?:\(\w+\))? )?(?:const )?(?:extern \"C\" )?fn (\w+
 OPENS_IMPL = r"()impl(?:<.*?>)? (?:([\w:]+)(?:<.*>)? for )?(\w+)"
 # What has parameters beside lifetimes: the answers of such a function take them before what is known at the goal.
 IS_GENERIC = r"(?:\bfn \w+|\bimpl)<(?!'\w+(?:, '\w+)*>)"
-# The answer to a goal that the right body needs none for, since the toolchain's search finds it.
+# The answer to a goal that the right body needs none for, and the tactics by which the toolchain finds it there.
+TACTICS = {"": "search rules fits 100", " by grind": "grind (arith, common_steps) steps 400000"}
 SEARCHED = """\
-use Rattle.std.proofs.Common.{{rules}}
+use Rattle.std.proofs.Common.{{rules, arith}}
+use Rattle.std.proofs.lemmas.Grind.{{common_steps}}
 use {module}.Goals as goal
 
 pub {goal} : goal.{goal}
-{goal} {parameters}c = search rules fits 100
+{goal} {parameters}c = {tactic}
 """
 # What is said where the crates below aren't proved.
 LACKING = "not proved as they stand: {}; run `rt lib` in each, or `make build`, first"
@@ -53,8 +55,8 @@ LACKING = "not proved as they stand: {}; run `rt lib` in each, or `make build`, 
 # A function of a file: its path below the crate, the lines where its comment and itself begin, and the line after.
 Function = collections.namedtuple("Function", "path file above start end is_of_trait is_generic")
 # The wrong body of a function: the name of the edit, the lines that the function then has, and the goal whose answer
-# refuses it, if that is known.
-Edit = collections.namedtuple("Edit", "name function lines by", defaults=[None])
+# refuses it, if that is known, with the tactic where the right body needs no answer.
+Edit = collections.namedtuple("Edit", "name function lines by tactic", defaults=[None, None])
 # What a check says of a function: whether it's proved, and what of its own is refused.
 Said = collections.namedtuple("Said", "is_proved own")
 
@@ -100,9 +102,10 @@ def body_of(lines, start):
 
 @functools.cache
 def goals_of(crate):
-    """By the name of an edit the goal whose answer refuses it."""
+    """By the name of an edit the goal whose answer refuses it, and the tactic where the right body needs no answer."""
     path = crates.folder(crate, "must-fail", "goals.md")
-    return dict(re.findall(r"(?m)^\| `(\w+)` \| `(.+)` \|$", places.text_of(path) if os.path.exists(path) else ""))
+    rows = re.findall(r"\| `(\w+)` \| `(.+)`( by grind)? \|\n", places.text_of(path) if os.path.exists(path) else "")
+    return {name: (goal, TACTICS[how]) for name, goal, how in rows}
 
 
 def read_edits(crate, name):
@@ -130,7 +133,7 @@ def read_edits(crate, name):
     if not changed:
         raise ValueError(f"{path}: no function is changed")
     names = [name] if len(changed) == 1 else [f"{name}_in_{it.path.split('::')[-1]}" for it in changed]
-    return [Edit(of, it, lines_of(texts[it.file], it), goals_of(crate).get(of)) for of, it in zip(names, changed)]
+    return [Edit(of, it, lines_of(texts[it.file], it), *goals_of(crate).get(of, [])) for of, it in zip(names, changed)]
 
 
 def unchanged(crate, edits):
@@ -150,9 +153,8 @@ def judged(edit):
 
 
 def write_copy(crate, edits, room):
-    for part in ("src", "specs", "proofs"):
-        if os.path.isdir(crates.folder(crate, part)):
-            shutil.copytree(crates.folder(crate, part), os.path.join(room, part))
+    for part in {"src", "specs", "proofs"}.intersection(os.listdir(crates.folder(crate))):
+        shutil.copytree(crates.folder(crate, part), os.path.join(room, part))
     # (from the last line of a file up, so that the lines above keep their numbers)
     for edit in sorted(edits, key=lambda it: -it.function.start):
         function, path = edit.function, os.path.join(room, edit.function.file)
@@ -209,7 +211,7 @@ def answer_alone(crate, edit, path):
     if not any(map(answered, kept)):
         os.makedirs(os.path.dirname(path), exist_ok=True)
         kept = [SEARCHED.format(module=f"Rattle.{crate}.proofs.{judged(edit).replace('::', '.')}", goal=edit.by,
-                                parameters="g " * edit.function.is_generic)]
+                                parameters="g " * edit.function.is_generic, tactic=edit.tactic)]
     places.wrote("\n\n".join(kept), path)
 
 
@@ -272,9 +274,8 @@ def refuse_offers(edits, room):
 
 def check(crate, edits, are_wrong):
     """What a check of the crate with these edits says of each function. Its words go to out/edits-CRATE.log."""
-    words = [*crates.command("check", crate), "--jobs", "1", "--allow-holes"]
-    for edit in edits:
-        words += ["--only", judged(edit)]
+    words = [*crates.command("check", crate), "--jobs", "1", "--allow-holes",
+             *(word for edit in edits for word in ("--only", judged(edit)))]
     own, goals, said = collections.defaultdict(list), [], {}
     how = {"stdin": subprocess.DEVNULL, "stdout": subprocess.PIPE, "stderr": subprocess.STDOUT, "text": True,
            "errors": "replace"}
@@ -339,8 +340,7 @@ def unproved_below(crate):
 
 def begin_log(crate):
     os.makedirs(places.path("out"), exist_ok=True)
-    with open(log_of(crate), "w", encoding="utf-8"):
-        pass
+    places.wrote("", log_of(crate))
 
 
 def try_edits(crate, left):
