@@ -2,7 +2,7 @@
 
 enum { FRACTION = (1 << HALF_OF_BITS) - 1, WHOLE = 1 << HALF_OF_BITS };
 
-/* Numbers without a sign, since a step more than is wanted may leave the plane; that is made place by the next line. */
+/* A multiple of AT_A_TIME are written: those too many, which may lie anywhere, give way to the next line. */
 void add_line(struct places *places, const struct plane *plane, struct fractions from, struct fractions step,
               int count) {
     uint32_t x = (uint32_t)from.x, y = (uint32_t)from.y, right = (uint32_t)step.x, down = (uint32_t)step.y,

@@ -32,8 +32,8 @@ struct places {
     uint16_t right[MOST_PLACES], down[MOST_PLACES];
 };
 
-/* Adds so many places, each a step behind the one before, all between pixels of a plane that was made, or the last one
- * of them `AT_A_TIME` steps away from the end of the room at least. */
+/* Adds so many places, each a step behind the one before, between pixels of a plane that plane_make made. All lines
+ * together, the last one made up to a multiple of AT_A_TIME, have room. */
 void add_line(struct places *places, const struct plane *plane, struct fractions from, struct fractions step,
               int count);
 

@@ -6,7 +6,7 @@
 
 enum { LEAST_STEPS = 40, MOST_STEPS = 1 << 20, MOST_PENDING = 64, NO_WAY = 4 };
 enum { WORK_OF_A_STEP = 10, PIECES_AT_A_UNIT = 3 }; /* along an outline; of those that are passed over, to be joined */
-static const double BEND = 1.4; /* pixels by which a straight piece may leave its chord */
+static const double BEND = 1.4; /* pixels by which a straight piece may leave its chord, however short it is */
 
 struct corner {
     int x, y;
@@ -24,7 +24,7 @@ struct tracing {
                                 the way up */
     struct turn *turns;      /* with both ends of the path */
     int count, turn_count, room;
-    double least;
+    double least, bend;
     struct limit *limit;
     struct lines *lines;
 };
@@ -167,6 +167,12 @@ static double farthest(const struct tracing *tracing, int first, int last, int *
     return is_closed ? sqrt((double)most) : (double)most / chord;
 }
 
+/* How far the path from one turn to another may leave its chord, to be straight. */
+static double most_bend(const struct tracing *tracing, int first, int last) {
+    struct point chord = difference(place(tracing->turns[last].at), place(tracing->turns[first].at));
+    return fmax(BEND, tracing->bend * length(chord));
+}
+
 /* Cuts the path, which is closed, into straight pieces, and keeps the long ones. A comb of many teeth is cut tooth by
  * tooth, each time after a look at the whole of what is left, so the limit may be reached here, too. False if there is
  * no memory. */
@@ -181,7 +187,7 @@ static bool cut(const struct tracing *tracing) {
         int first = pending[--depth][0], last = pending[depth][1], where;
         if (turns[last].step - turns[first].step < tracing->least)
             continue;
-        if (farthest(tracing, first, last, &where) <= BEND) {
+        if (farthest(tracing, first, last, &where) <= most_bend(tracing, first, last)) {
             struct line line = fit_line(&turns[first], &turns[last]);
             if (line.length >= tracing->least)
                 enough = keep(tracing->lines, line);
@@ -218,8 +224,8 @@ static bool continues(const struct strip *strip, const struct line *piece) {
            fabs(cross(strip->unit, behind)) < strip->apart && last > -0.5 * strip->whole && first < 1.5 * strip->whole;
 }
 
-/* Where pieces begin: of each band of so many pixels, across and down, a bit for each piece, in words. What lies outside
- * of all is in the nearest. */
+/* Where pieces begin: of each band of so many pixels, across and down, a bit for each piece, in words. What lies
+ * outside of all is in the nearest. */
 enum { BAND = 32, BITS = 64 };
 struct bands {
     int count;
@@ -355,8 +361,8 @@ static int next_left_side(const struct plane *dark, int x, int y) {
     return x;
 }
 
-bool find_lines(const struct plane *dark, double least, struct limit *limit, struct lines *out) {
-    struct tracing tracing = {.dark = dark, .least = least, .limit = limit, .lines = out};
+bool find_lines(const struct plane *dark, double least, double bend, struct limit *limit, struct lines *out) {
+    struct tracing tracing = {.dark = dark, .least = least, .bend = bend, .limit = limit, .lines = out};
     tracing.seen = calloc(dark->stride, (size_t)dark->height);
     bool enough = tracing.seen != NULL;
     out->count = 0;

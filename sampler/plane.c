@@ -342,8 +342,8 @@ struct ranges {
     uint8_t *least, *most;
 };
 
-/* The ranges of all tiles of a plane, row by row, those of the squares of tiles around each, and room for a row of tiles
- * with as many on both sides as squares reach, and for two rows of pixels. */
+/* The ranges of all tiles of a plane, row by row, those of the squares of tiles around each, and room for a row of
+ * tiles, with as many on both sides as squares reach, and for two rows of pixels. */
 struct tiles {
     struct surroundings by;
     int across, down;

@@ -52,8 +52,8 @@ bool plane_close(const struct plane *from, int least, int most, struct limit *li
 bool plane_steepen(const struct plane *from, struct limit *limit, struct plane *out);
 
 /* What a pixel is compared with, by squares of tiles of so many pixels each way, a power of two: the square around its
- * own tile, with so many to each side; nothing is dark where it shows less contrast than so many levels of 255, or, if that isn't 0,
- * more than so many. */
+ * own tile, with so many to each side; nothing is dark where it shows less contrast than so many levels of 255, or, if
+ * that isn't 0, more than so many. */
 struct surroundings {
     int tile, around, least_contrast, most_contrast;
 };

@@ -49,8 +49,8 @@ static void ground_along(const struct plane *ground, int y, int halvings, uint16
     out[0] = out[1], out[ground->width + 1] = out[ground->width + 2] = out[ground->width];
 }
 
-/* How bright the ground is of the pixels of a row, by that along it, which lies so many halvings apart: of every pixel, or
- * every other one from number `first` on. In lanes. */
+/* How bright the ground is of the pixels of a row, by that along it, which lies so many halvings apart: of every pixel,
+ * or every other one from number `first` on. In lanes. */
 static void spread_ground(const uint16_t *restrict ground, int width, int halvings, int first, uint8_t *restrict to) {
     int unit = 2 << halvings, at = 2 * first + 1 + unit / 2, count = (width - first + unit / 2 - 1) >> halvings;
     uint16_t right = (uint16_t)(at & (unit - 1)), left = (uint16_t)(unit - right);

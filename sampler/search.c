@@ -9,7 +9,8 @@ enum { LEAST_CONTRAST = 24, LEAST_OF_REMADE = 6, MOST_OF_FAINT = 160 }; /* level
 static const struct surroundings WIDE = {8, 2, LEAST_CONTRAST, 0}, CLOSE = {8, 1, LEAST_CONTRAST, 0},
                                  OF_REMADE = {8, 1, LEAST_OF_REMADE, 0};
 enum { STEEPEST_OF_FAINT = 8 }; /* levels: of a window with modules */
-static const double LEAST_LINE = 10; /* pixels of a level */
+static const double LEAST_LINE = 10;       /* pixels of a level */
+static const double BEND_OF_REMADE = 0.04; /* of a border: where nothing was seen, it may be bent */
 
 /* At which level dots are looked for that have at most so many pixels to both sides of each of theirs. */
 struct dots {
@@ -101,7 +102,7 @@ static void search_elbows(struct search *search, const struct sight *sight, int 
 /* Finds the elbows of a level of the picture. False if there is no memory. */
 static bool find_all_elbows(struct search *search, int level, const struct plane *dark, struct elbows *out) {
     struct sought in = {dark, &search->lines, &search->known, 1 << level};
-    return find_lines(dark, LEAST_LINE, search->judge.limit, &search->lines) &&
+    return find_lines(dark, LEAST_LINE, search->bend, search->judge.limit, &search->lines) &&
            find_elbows(&in, search->judge.limit, out);
 }
 
@@ -317,6 +318,7 @@ void search_picture(struct search *search, const struct plane *picture, enum loo
     search->by = look == AS_IT_IS ? WIDE : OF_REMADE, search->seeds.count = 0;
     search->by.most_contrast = is_alike ? MOST_OF_FAINT : 0;
     search->most_steep = is_alike ? STEEPEST_OF_FAINT : UINT8_MAX;
+    search->bend = look == AS_IT_IS ? 0 : BEND_OF_REMADE;
     note_lack(search, make_levels(plain, search->judge.limit));
     search_clearly(search);
     if (look == AS_IT_IS && !is_over(search))

@@ -41,6 +41,7 @@ struct search {
     struct known known;   /* where they are */
     struct surroundings by; /* what is dark is darker than these; what is clearer was seen before */
     int most_steep;         /* of what lattices are looked for in: what is steeper was seen before */
+    double bend;            /* of its length: by how much a border may be bent */
     struct seeds seeds;     /* of the lattices that were looked for */
 };
 

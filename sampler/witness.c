@@ -56,8 +56,10 @@ static void profile_between(const struct plane *plane, const struct line_across 
     struct places places;
     int levels[MOST_PLACES];
     places.count = 0;
-    for (int along = -1; along <= 1; along++)
-        add_line(&places, plane, (struct fractions){from.x + along * beside.x, from.y + along * beside.y}, step, SAMPLES);
+    for (int along = -1; along <= 1; along++) {
+        struct fractions at = {from.x + along * beside.x, from.y + along * beside.y};
+        add_line(&places, plane, at, step, SAMPLES);
+    }
     find_levels(plane, &places, levels);
     for (int k = 0; k < SAMPLES; k++)
         profile[k] = levels[k] + levels[k + SAMPLES] + levels[k + 2 * SAMPLES];

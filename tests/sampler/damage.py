@@ -36,8 +36,7 @@ class Damage:
         return squares() + [(message, grid) for rows, columns, message, grid in symbols() if 16 <= rows < columns][::4]
 
     def grows(self, name, message, spoil, steps):
-        """Damage that grows: what is read is the message, and where that is by doubtful modules, two checks of each
-        block are left. Gives the readings by doubtful modules, with their steps."""
+        """Damage that grows: two checks of each block are left. Gives the readings by doubtful modules, with steps."""
         known = []
         for step in steps:
             last = self.first(spoil(step))

@@ -49,8 +49,7 @@ class Efforts:
         self.row("60 symbols with text and 5 % of the work", Searches(self).of(rows, 61, 5), (said(messages), "whole"))
 
     def test_large_work(self):
-        """A large picture is allowed less than a small one, for the time that it takes to open it: of the usual work
-        for each, a blank one of 12 megapixels needs a share more than six times as large as one of 2."""
+        """A large picture, which takes long to open, is allowed less: of 12 megapixels, over six times that of 2."""
         searches = Searches(self)
         shares = []
         for wide, high in ((2000, 1000), (4000, 3000)):

@@ -25,14 +25,14 @@ def turned_by(angle, right, down, side):
             math.cos(angle) * down - math.sin(angle) * right + side / 2)
 
 
-def waved(grid, scale, right, down, at):
+def waved(grid, scale, right, down, at, dark=30):
     """A symbol whose modules lie beside their places by so much at most, in waves that begin somewhere."""
     side = len(grid)
 
     def level(x, y):
         column = math.floor(x / scale - 4 + right * math.sin(2 * math.pi * (y / scale / 16 + at / 5)))
         row = math.floor(y / scale - 4 + down * math.sin(2 * math.pi * (x / scale / 17 + at / 7)))
-        return 30 if 0 <= row < side and 0 <= column < side and grid[row][column] else 220
+        return dark if 0 <= row < side and 0 <= column < side and grid[row][column] else 220
     return drawn((side + 8) * scale, (side + 8) * scale, level)
 
 
@@ -136,8 +136,7 @@ class Hard:
             self.says(f"side {side} around a cylinder", drawn(wide, wide, level), message_of(count), "--time=30000")
 
     def test_crumpled(self):
-        """On crumpled paper, and as a camera shows them that shakes while it takes row by row: modules lie beside their
-        places, in waves; the picture as it is and turned, dark on light and light on dark."""
+        """On crumpled paper, and as a camera shows them that shakes; as it is and turned, dark on light or not."""
         for at, (side, count, _) in enumerate(sizes()[4:10:2]):
             for name, right, down in (("crumpled", 0.4, 0.3), ("row by row", 0.45, 0)):
                 rows = waved(grid_of(message_of(count)), 6, right, down, at)
@@ -151,6 +150,12 @@ class Hard:
         for at in (16, 18, 20):
             side, count, _ = sizes()[at]
             self.says(f"side {side}", waved(grid_of(message_of(count)), 6, 0.4, 0.3, at), message_of(count))
+
+    def test_crumpled_faintly(self):
+        """Hardly darker than the paper, where no net grows: borders are bent by a share of their length."""
+        for at, scale in ((4, 4), (6, 6), (8, 4)):
+            side, count, _ = sizes()[at]
+            self.says(f"side {side}", waved(grid_of(message_of(count)), scale, 0.4, 0.3, at, 212), message_of(count))
 
     def test_crumpled_steep(self):
         """In steep waves, which nets follow all around or where they are surest; of small modules, where doubled."""

@@ -47,7 +47,7 @@ static int are_joined(int right, int down) {
                             x < right + PIECES * (PIECE + APART);
             pixels[(y + 1) * STRIDE + x + 1] = is_in_row || (y % 30 < 5 && abs(y - down) > 60 && x % 50 < 20);
         }
-    if (find_lines(&dark, 10, &limit, &lines))
+    if (find_lines(&dark, 10, 0, &limit, &lines))
         for (int k = 0; k < lines.count; k++)
             is_whole |= lines.items[k].is_joined && fabs(lines.items[k].from.y - down) < 8 &&
                         fabs(lines.items[k].to.x - lines.items[k].from.x) > PIECES * PIECE + APART;
@@ -68,7 +68,7 @@ static int are_slanted(void) {
         double x = k % SIDE + 0.5, y = k / SIDE + 0.5 - 90 - slope * x;
         pixels[(k / SIDE + 1) * STRIDE + k % SIDE + 1] = x > 20 && x < 220 && y > 0 && y < THICK;
     }
-    if (find_lines(&dark, 100, &limit, &lines))
+    if (find_lines(&dark, 100, 0, &limit, &lines))
         for (int k = 0; k < lines.count && k < 2; k++) {
             const struct line *line = &lines.items[k];
             double upper = line->from.y - 90 - slope * line->from.x, lower = line->to.y - 90 - slope * line->to.x;

@@ -97,8 +97,7 @@ def by_netpbm(path):
 
 
 def luminances(folder):
-    """Makes a file of each form, and gives its path with the luminance, row by row on white, that was put in it, and
-    that Pillow and netpbm see, or None where one of them passes over a colour that is clear."""
+    """Makes a file of each form; gives its path and the luminances, on white, put in it and seen by others or None."""
     for name, form in forms():
         kind, depth, *_, is_clear = form
         path = os.path.join(folder, f"form-{name}.png")

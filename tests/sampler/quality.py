@@ -17,8 +17,7 @@ def rows_of(text, **more):
 
 
 def drawn(grid, dark=30, light=230, growth=(0, 0), place=None, scale=SCALE, fine=1, spots=()):
-    """The picture of a grid. Dark modules are wider and higher by the growth; `place` says which place is seen at
-    another; `spots` are places of the quiet zone that are dark; each pixel is the mean of fine * fine."""
+    """The picture of a grid whose dark modules grow; `place` moves places; `spots` of the quiet zone are dark."""
     wide, high = len(grid[0]), len(grid)
     inked = {(x, y) for y, row in enumerate(grid) for x, module in enumerate(row) if module} | set(spots)
 

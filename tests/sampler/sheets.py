@@ -89,8 +89,7 @@ class Sheets:
         self.row("a tray", (got, ended), (messages, (0, b"")))
 
     def test_noisy_sheets(self):
-        """Of sheets that are turned and full of noise, whose symbols nearly touch, those are read too whose borders the
-        noise hides from who doesn't know where its neighbours are."""
+        """Symbols that nearly touch, in noise that hides borders from who doesn't know where the neighbours are."""
         chance = random.Random(32)
         for angle, noise in ((3.03, 22), (2.32, 16), (4.21, 10), (4.04, 16)):
             messages, grids = labels(64, chance)
@@ -100,8 +99,7 @@ class Sheets:
             self.row(f"noise of {noise}, turned by {angle}", (sorted(got), ended), (sorted(messages), (0, b"")))
 
     def test_our_own_sheets(self):
-        """The sheets that the command draws, with their usual quiet zone and perhaps what they say below them, are read
-        whole, in their order, and there is no word that there may be more."""
+        """Sheets that the command draws, perhaps with captions, are read whole, in order, and no word is said."""
         env = {**os.environ, "PYTHONPATH": places.PACKAGE, "ECC200_LIBRARY": places.SHARED}
         for count, words in ((10, []), (57, []), (400, []), (40, ["--caption"]), (60, ["--caption"]),
                              (200, ["--caption"])):
