@@ -18,11 +18,16 @@ static const struct rule DOUBT_RULES[] = {{AS_SEEN, 0.00, false, 0, false},
                                           {SLIGHTLY, 0.00, true, 0, false},
                                           {AS_SEEN, 0.00, false, 3, false},
                                           {SLIGHTLY, 0.00, false, 0, true}};
+/* Those for modules as bright as their darkest points, which gleams leave darker than light ones if only in part. */
+static const struct rule GLEAM_RULES[] = {{SLIGHTLY, 0.15, false, 0, false}, {AS_SEEN, 0.30, false, 0, false},
+                                          {SLIGHTLY, 0.00, false, 2, false}, {SLIGHTLY, 0.00, false, 0, true},
+                                          {CLEARLY, 0.00, true, 0, false},   {SLIGHTLY, 0.00, true, 0, false}};
 /* That of the first guess where light has run from module to module. */
 static const struct rule SMEAR_RULE = {SLIGHTLY, 0.00, true, 0, false};
 enum {
     RULE_COUNT = sizeof RULES / sizeof *RULES,
-    DOUBT_RULE_COUNT = sizeof DOUBT_RULES / sizeof *DOUBT_RULES
+    DOUBT_RULE_COUNT = sizeof DOUBT_RULES / sizeof *DOUBT_RULES,
+    GLEAM_RULE_COUNT = sizeof GLEAM_RULES / sizeof *GLEAM_RULES
 };
 enum { CHECKS_OF_A_CORRECTION = 2 };
 /* Checks that tell a symbol with doubtful modules from chance, which meets each of them one time in 256. */
@@ -169,8 +174,9 @@ static void take_seen(struct trials *trials, bool is_mirrored) {
         memcpy(trial->modules, judge->seen, (size_t)extent.wide * (size_t)extent.high);
 }
 
-/* Tries the rules. False if the modules can't be told apart by the border. */
-static bool try_rules(struct trials *trials, const struct brightnesses *brightnesses, int count) {
+/* Tries these rules. False if the modules can't be told apart by the border. */
+static bool try_these(struct trials *trials, const struct brightnesses *brightnesses, const struct rule *rules,
+                      int count) {
     struct judge *judge = trials->judge;
     ecc200_sample *trial = judge->trial;
     const struct layout *layout = trials->layout;
@@ -178,7 +184,7 @@ static bool try_rules(struct trials *trials, const struct brightnesses *brightne
     begin_telling(brightnesses, layout, layout->colour, &judge->telling);
     for (int k = 0; k < count && trials->best_cost != 0; k++) {
         spend(judge, layout, WORK_OF_A_RULE + WORK_OF_READING);
-        enum told told = tell_apart(&judge->telling, RULES[k], limit, judge->seen);
+        enum told told = tell_apart(&judge->telling, rules[k], limit, judge->seen);
         if (told == NO_CONTRAST)
             return k > 0;
         if (told == NO_BORDER)
@@ -189,7 +195,7 @@ static bool try_rules(struct trials *trials, const struct brightnesses *brightne
             continue;
         }
         trials->has_border = true;
-        if (RULES[k].around == 0)
+        if (rules[k].around == 0)
             hand_on_refused(trials);
         if (!is_square(layout->extent))
             continue;
@@ -198,6 +204,10 @@ static bool try_rules(struct trials *trials, const struct brightnesses *brightne
             keep_if_trusted(trials);
     }
     return true;
+}
+
+static bool try_rules(struct trials *trials, const struct brightnesses *brightnesses) {
+    return try_these(trials, brightnesses, RULES, RULE_COUNT);
 }
 
 /* ---- Known damage */
@@ -290,7 +300,7 @@ static void try_regions(struct trials *trials, struct lie *lie, struct brightnes
         refine(trials->judge->smooth, layout, part, 0.3, 2, 0, &lie->warps[k]);
     }
     sample_modules(trials->judge->picture, layout, lie, brightnesses);
-    try_rules(trials, brightnesses, RULE_COUNT);
+    try_rules(trials, brightnesses);
 }
 
 /* Bends the whole by its border, and then by all edges, whatever modules they are between. */
@@ -312,7 +322,7 @@ static void try_bent(struct trials *trials, struct lie *lie, struct brightnesses
         lie->region = extent, lie->warps[0] = warp;
         spend(judge, trials->layout, WORK_OF_SAMPLING);
         sample_modules(judge->picture, trials->layout, lie, brightnesses);
-        try_rules(trials, brightnesses, RULE_COUNT);
+        try_rules(trials, brightnesses);
     }
 }
 
@@ -328,15 +338,21 @@ static void try_undone(struct trials *trials, bool is_mirrored) {
         hand_on_untrusted(trials);
 }
 
+/* A warp to the picture as one to what that was made of. */
+static struct warp to_original(const struct judge *judge, const struct warp *warp) {
+    struct warp out = *warp;
+    for (int k = 0; k < 2 * 3; k++)
+        out.to_picture.m[k / 3][k % 3] *= judge->scale / judge->scale_of_original;
+    return out;
+}
+
 /* Looks at what the picture shows to be damaged, and at what the one that it was made of does, whose damage may look
  * sound in it. */
 static void look_for_damage(struct judge *judge, const struct layout *layout, const struct warp *warp) {
-    struct warp of_original = *warp;
     look_at_modules(judge->picture, false, layout, warp, &judge->looks[0]);
     if (judge->original == NULL)
         return;
-    for (int k = 0; k < 2 * 3; k++)
-        of_original.to_picture.m[k / 3][k % 3] *= judge->scale / judge->scale_of_original;
+    struct warp of_original = to_original(judge, warp);
     look_at_modules(judge->original, judge->is_inverted, layout, &of_original, &judge->looks[1]);
 }
 
@@ -399,7 +415,7 @@ bool judge_placement(struct judge *judge, const struct placement *placement, ecc
     struct lie lie = {.region = layout->extent, .warps = {warp}};
     spend(judge, layout, WORK_OF_SAMPLING);
     sample_modules(judge->picture, layout, &lie, &brightnesses);
-    if (!try_rules(&trials, &brightnesses, RULE_COUNT))
+    if (!try_rules(&trials, &brightnesses))
         return false;
     try_regions(&trials, &lie, &otherwise);
     try_bent(&trials, &lie, &otherwise);
@@ -412,15 +428,25 @@ bool judge_placement(struct judge *judge, const struct placement *placement, ecc
     return trials.best_cost >= 0;
 }
 
+/* Tries modules by their darkest points in a picture. */
+static void try_gleaming(struct trials *trials, const struct plane *picture, const struct warp *warp) {
+    const struct layout *layout = trials->layout;
+    struct lie lie = {.region = layout->extent, .warps = {*warp}};
+    struct brightnesses brightnesses;
+    spend(trials->judge, layout, WORK_OF_SAMPLING);
+    sample_modules(picture, layout, &lie, &brightnesses);
+    take_darkest(&brightnesses);
+    try_these(trials, &brightnesses, GLEAM_RULES, GLEAM_RULE_COUNT);
+}
+
 bool judge_gleaming(struct judge *judge, const struct smeared *gleaming, ecc200_sample *out) {
     const struct layout *layout = layout_of(judge->layouts, gleaming->at.extent);
     struct trials trials = {judge, layout, &gleaming->warp, out, -1, gleaming->score, false};
-    struct lie lie = {.region = gleaming->at.extent, .warps = {gleaming->warp}};
-    struct brightnesses brightnesses;
-    spend(judge, layout, WORK_OF_SAMPLING);
-    sample_modules(judge->picture, layout, &lie, &brightnesses);
-    take_darkest(&brightnesses);
-    try_rules(&trials, &brightnesses, RULE_COUNT);
+    try_gleaming(&trials, judge->picture, &gleaming->warp);
+    if (trials.best_cost < 0 && judge->original != NULL && !judge->is_inverted) {
+        struct warp of_original = to_original(judge, &gleaming->warp);
+        try_gleaming(&trials, judge->original, &of_original);
+    }
     return trials.best_cost >= 0;
 }
 

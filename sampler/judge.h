@@ -35,7 +35,7 @@ struct judge {
 /* Whether the placement, or one near it, is read; then `out` is the candidate with the fewest corrections. */
 bool judge_placement(struct judge *judge, const struct placement *placement, ecc200_sample *out);
 
-/* Whether a placement is read by its modules' darkest quarters, as where gleams lie across them; then `out` is what it
+/* Whether a placement is read by its modules' darkest points, as where gleams lie across them; then `out` is what it
  * says. */
 bool judge_gleaming(struct judge *judge, const struct smeared *gleaming, ecc200_sample *out);
 

@@ -3,7 +3,7 @@
 #include <math.h>
 #include <string.h>
 
-enum { POINTS = 4, QUARTERS = 4 };
+enum { POINTS = 4 };
 static const double FIRST = -0.27, APART = 0.18; /* modules: where the points of a module are */
 static const double LEAST_AROUND = 0.15; /* of the contrast of the symbol, below which a window shows one colour only */
 static const double LEAST_CONTRAST = 3;  /* of dark and light modules, in levels */
@@ -17,16 +17,16 @@ void sample_modules(const struct plane *plane, const struct layout *layout, cons
     for (int row = 0; row < high; row++)
         for (int column = 0; column < wide; column++) {
             const struct warp *warp = &lie->warps[row / lie->region.high * across + column / lie->region.wide];
-            double quarters[QUARTERS] = {0};
+            double total = 0, least = 255, next = 255;
             for (int k = 0; k < POINTS * POINTS; k++) {
                 int x = k % POINTS, y = k / POINTS;
                 struct point at = warp_point(warp, column + 0.5 + FIRST + APART * x, row + 0.5 + FIRST + APART * y);
-                quarters[2 * (y / 2) + x / 2] += brightness(plane, at);
+                double here = brightness(plane, at);
+                total += here;
+                next = here < least ? least : here < next ? here : next, least = here < least ? here : least;
             }
-            double darkest = fmin(fmin(quarters[0], quarters[1]), fmin(quarters[2], quarters[3]));
-            out->of[row * wide + column] =
-                (float)((quarters[0] + quarters[1] + quarters[2] + quarters[3]) / (POINTS * POINTS));
-            out->darkest[row * wide + column] = (float)(darkest * QUARTERS / (POINTS * POINTS));
+            out->of[row * wide + column] = (float)(total / (POINTS * POINTS));
+            out->darkest[row * wide + column] = (float)((least + next) / 2);
         }
 }
 

@@ -6,7 +6,7 @@
 #include "plane.h"
 #include "warp.h"
 
-/* Of modules of an extent, row by row: of the middle of each, and of the darkest quarter of that. */
+/* Of modules of an extent, row by row: of the middle of each, and of the darkest points there. */
 struct brightnesses {
     struct extent extent;
     float of[MOST_MODULES], darkest[MOST_MODULES];
@@ -20,11 +20,11 @@ struct lie {
     struct warp warps[MOST_REGIONS];
 };
 
-/* The mean brightness of each module's middle, and of its darkest quarter. */
+/* The mean brightness of each module's middle, and of its two darkest points. */
 void sample_modules(const struct plane *plane, const struct layout *layout, const struct lie *lie,
                     struct brightnesses *out);
 
-/* Takes modules to be as bright as their darkest quarters: so thin gleams, which are brighter than the ground and lie
+/* Takes modules to be as bright as their darkest points: so thin gleams, which are brighter than the ground and lie
  * across dark modules, leave these dark. */
 void take_darkest(struct brightnesses *brightnesses);
 

@@ -45,8 +45,7 @@ ROWS = [
     ("border 20`", "zint -b 71 --square --direct --filetype=png -d 123456 | pngtopnm | grid | dm_tool read",
      r"\no 5 border 20"),
     ("border 20`", "zint_grid -d 123456 | dm_tool read", "123456"),
-    ("border 20`",
-     "zint -b 71 --square --direct --filetype=png -d 123456 | pngtopnm | pamscale -nomix -reduce 2"
+    ("border 20`", "zint -b 71 --square --direct --filetype=png -d 123456 | pngtopnm | pamscale -nomix -reduce 2"
      " | grid | dm_tool read", "123456"),
     ("border 18`", "tac g | dm_tool read", r"\no 5 border 18"),
     ("border 18`", "rev g | dm_tool read", r"\no 5 border 18"),
@@ -63,8 +62,7 @@ ROWS = [
     ("side 50`", "printf 123456 | dmtxwrite_grid | dm_tool read", "123456"),
     ("side 50`", "printf 123456 | dmtxwrite | pngtopnm | pamscale -nomix -reduce 5 | grid | dm_tool read", "123456"),
     ("side 9`", "zint_grid -r -d 123456 | dm_tool read", r"\no 4 side 9"),
-    ("side 9`",
-     "zint -b 71 --square --scale 0.5 -r -d 123456 --direct --filetype=png | pngtopnm | pnminvert"
+    ("side 9`", "zint -b 71 --square --scale 0.5 -r -d 123456 --direct --filetype=png | pngtopnm | pnminvert"
      " | grid | dm_tool read", "123456"),
     ("side 9`", "tr 01 10 < g | dm_tool read", r"\no 5 border 36"),
     ("side 9`", "tr 01 10 < g | tr 01 10 | dm_tool read", "123456"),

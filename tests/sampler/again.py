@@ -1,5 +1,6 @@
 """What only a second look shows: faint symbols, dark labels, gleams, small dots, and a pixel or two a module."""
 import json
+import math
 import random
 
 from tests.sampler.hard import crowded
@@ -35,9 +36,9 @@ def on_dark(message, pixels):
     return [[min(255, max(0, round(chance.gauss(level, level ** 0.5)))) for level in row] for row in rows]
 
 
-def gleaming(message, pixels, apart, thick):
-    """A symbol with bright lines across it, so many modules apart along rows and so many half pixels thick."""
-    return [[255 if (2 * x + y) % (apart * pixels) < thick else level for x, level in enumerate(row)]
+def gleaming(message, pixels, gleam):
+    """A symbol that is brighter by a gleam at each place, told in modules."""
+    return [[min(255, int(level + gleam(x / pixels, y / pixels))) for x, level in enumerate(row)]
             for y, row in enumerate(pixels_of(grid_of(message), pixels, 3, 110, 170))]
 
 
@@ -77,8 +78,13 @@ class Again:
     def test_gleaming(self):
         """Thin gleams across modules leave these as they are."""
         for pixels, apart, thick in ((5, 5, 4), (5, 7, 5), (6, 5, 4), (6, 7, 5), (12, 7, 14), (12, 9, 12), (14, 7, 12)):
-            self.all_say(f"{thick / 2} pixels, {apart} modules apart, of {pixels} pixels",
-                         gleaming("GLEAMING", pixels, apart, thick), ["GLEAMING"])
+            rows = gleaming("GLEAMING", pixels, lambda x, y: 145 * ((2 * x + y) % apart < thick / pixels))
+            self.all_say(f"{thick / 2} pixels, {apart} modules apart, of {pixels} pixels", rows, ["GLEAMING"])
+        for count, pixels, wide in ((30, 4, 0.14), (30, 8, 0.2), (62, 4, 0.14), (114, 8, 0.14)):
+            fold = lambda x, y: math.sin(x / 3) + math.sin(y / 2.3 + math.sin(x / 5))
+            message = ("GLEAMS ALONG FOLDS " * 6)[:count]
+            rows = gleaming(message, pixels, lambda x, y: 130 * math.exp(-(fold(x, y) / wide) ** 2))
+            self.all_say(f"folds {wide} wide, {count} letters, {pixels} pixels a module", rows, [message])
 
     def test_bound_dots(self):
         """Dots as zint draws them at its smallest, with binding bars: of three pixels and of one."""

@@ -183,12 +183,10 @@ class Options:
                                   ("é\u202ex".encode(), "é\\xE2\\x80\\xAEx", "é\u202ex")):
             for kind, words, said in (("read", ["--corners"], "{}: 12.0,12.0 52.0,12.0 52.0,52.0 12.0,52.0"),
                                       ("refused", [], "dm_sample: {}: PNM: a faulty header"),
-                                      ("empty", ["--time=0"],
-                                       "dm_sample: {}: the search ended early, after 0 "
+                                      ("empty", ["--time=0"], "dm_sample: {}: the search ended early, after 0 "
                                        "milliseconds: there may be a symbol"),
-                                      ("held back", [],
-                                       "dm_sample: {}: the symbol of 8 by 18 modules at 12.0,12.0 is no "
-                                       "square: --json has it")):
+                                      ("held back", [], "dm_sample: {}: the symbol of 8 by 18 modules at 12.0,12.0 is "
+                                       "no square: --json has it")):
                 places.wrote(picture[kind], self.room, os.fsdecode(name))
                 done = run([self.sampler, *words, name], cwd=self.room)
                 self.row(f"{kind} {name}", done.stderr.decode(errors="replace"), said.format(shown) + "\n")

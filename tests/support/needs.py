@@ -13,9 +13,8 @@ PACKAGES = {
     "c++": "g++", "nm": "binutils", "sshd": "openssh-server", "ssh": "openssh-client", "pkg-config": "pkgconf",
     "javac": "default-jdk-headless", "node": "nodejs", "wasm-opt": "binaryen", "WebKitWebDriver": "webkit2gtk-driver",
     "Xvfb": "xvfb", "chromedriver": "chromium-driver", "tsc": "node-typescript", "qemu-aarch64": "qemu-user",
-    "qemu-riscv64": "qemu-user", "aarch64-linux-gnu-g++": "g++-aarch64-linux-gnu",
+    "qemu-riscv64": "qemu-user", "aarch64-linux-gnu-g++": "g++-aarch64-linux-gnu", "wasm-ld": "lld",
     "riscv64-linux-gnu-g++": "g++-riscv64-linux-gnu", "x86_64-w64-mingw32-g++": "g++-mingw-w64-x86-64",
-    "wasm-ld": "lld",
 }
 # What `make page` needs besides the library.
 PAGE = ("wasm-opt", "clang", "wasm-ld", "esbuild")
