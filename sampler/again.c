@@ -46,12 +46,18 @@ static bool compare(const struct plane *picture, struct limit *limit, struct pla
     return plane_compare(picture, NO_GLEAM, limit, out, is_alike);
 }
 
+/* The picture as a share of its ground without gleams. */
+static bool compare_dull(const struct plane *picture, struct limit *limit, struct plane *out, bool *is_alike) {
+    bool is_made = plane_compare(picture, GLEAM, limit, out, is_alike);
+    *is_alike = false;
+    return is_made;
+}
+
 /* The picture as a share of its ground without gleams, and then twice as large. */
 static bool compare_doubled(const struct plane *picture, struct limit *limit, struct plane *out, bool *is_alike) {
     struct plane compared;
-    bool is_made = plane_compare(picture, GLEAM, limit, &compared, is_alike) && plane_double(&compared, limit, out);
+    bool is_made = compare_dull(picture, limit, &compared, is_alike) && plane_double(&compared, limit, out);
     plane_free(&compared);
-    *is_alike = false;
     return is_made;
 }
 
@@ -74,17 +80,33 @@ static bool is_drawn(const struct plane *picture) {
     return is_of_two;
 }
 
+/* Whether a small part of a picture is much lighter than most of it, as gleams are; by some of its rows. */
+static bool is_gleaming(const struct plane *picture) {
+    enum { ROWS_APART = 4, LEAST = 50, MOST = 5 }; /* of the part: one of so many pixels */
+    int often[256] = {0}, count = 0, usual = 0, lighter = 0;
+    for (int y = 0; y < picture->height; y += ROWS_APART, count += picture->width)
+        for (int x = 0; x < picture->width; x++)
+            often[*pixel_of(picture, x, y)]++;
+    for (int passed = often[0]; passed < count / 4 * 3; passed += often[usual])
+        usual++;
+    for (int level = usual + usual / 5 + 1; level < 256; level++)
+        lighter += often[level];
+    return lighter > count / LEAST && lighter < count / MOST;
+}
+
 /* What pictures are made into, and whether that is alike but for what is faint; how many pixels of it are one of the
  * picture, how much work that is worth, and which pictures are. */
 static const struct {
     bool (*make)(const struct plane *picture, struct limit *limit, struct plane *out, bool *is_alike);
     int scale;
     int percent, most_pixels; /* percent of the usual work */
-    bool is_for_drawings, is_for_more; /* of drawings only; also where something has been found */
+    bool (*suits)(const struct plane *picture); /* of which pictures, or NULL */
+    bool is_for_more;                           /* also where something has been found */
     enum look look;
-} LOOKS[] = {{compare, 1, 50, INT32_MAX, false, true, REMADE},
-             {compare_doubled, 2, 30, MOST_DOUBLED, false, false, REMADE_FOR_NETS},
-             {join_dots, JOINED, 50, MOST_JOINED, true, false, REMADE}};
+} LOOKS[] = {{compare, 1, 50, INT32_MAX, NULL, true, REMADE},
+             {compare_doubled, 2, 30, MOST_DOUBLED, NULL, false, REMADE_FOR_NETS},
+             {join_dots, JOINED, 50, MOST_JOINED, is_drawn, false, REMADE},
+             {compare_dull, 1, 50, INT32_MAX, is_gleaming, false, REMADE}};
 
 /* Looks at a picture in one of these ways, if it is of those. */
 static void look_again(struct search *search, const struct plane *picture, size_t k) {
@@ -93,7 +115,7 @@ static void look_again(struct search *search, const struct plane *picture, size_
     limit_begin_anew(limit, LOOKS[k].percent);
     if (is_over(search) || (search->count > 0 && !LOOKS[k].is_for_more) ||
         (int64_t)picture->width * picture->height > LOOKS[k].most_pixels ||
-        (LOOKS[k].is_for_drawings && !is_drawn(picture)))
+        (LOOKS[k].suits != NULL && !LOOKS[k].suits(picture)))
         return;
     search->judge.original = picture, search->judge.scale_of_original = LOOKS[k].scale;
     bool is_alike = false, is_made = LOOKS[k].make(picture, limit, &remade, &is_alike);

@@ -21,10 +21,9 @@ def options_of(folder):
     options = webdriver.ChromeOptions()
     for word in (*WORDS, f"--user-data-dir={folder}"):
         options.add_argument(word)
-    options.add_experimental_option("prefs",
-                                    {"download.default_directory": str(on.folder),
-                                     "profile.default_content_setting_values.automatic_downloads": 1,
-                                     "profile.content_settings.exceptions.clipboard": {"*": {"setting": 1}}})
+    options.add_experimental_option("prefs", {
+        "download.default_directory": str(on.folder), "profile.default_content_setting_values.automatic_downloads": 1,
+        "profile.content_settings.exceptions.clipboard": {"*": {"setting": 1}}})
     options.set_capability("goog:loggingPrefs", {"browser": "ALL"})
     return options
 

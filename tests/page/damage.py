@@ -57,9 +57,8 @@ def border():
     expect("border said", shown()["why"], "3 modules of the border have the wrong colour, and 2 may. The message may "
            "still be readable: accept more under “Details”.")
     put("border-limit", "3")
-    expect("border borne", [shown()[it] for it in ("state", "says", "why")],
-           ["Read", "123456",
-            "3 modules of the border have the wrong colour. Damage within the limits never changes the message."])
+    expect("border borne", [shown()[it] for it in ("state", "says", "why")], ["Read", "123456",
+           "3 modules of the border have the wrong colour. Damage within the limits never changes the message."])
     expect("the meter of what is borne", shown()["meters"], ["0 wrong, 2", "3 wrong, 3"])
     push("usual")
     agree("border as usual")

@@ -80,8 +80,9 @@ class Again:
         for pixels, apart, thick in ((5, 5, 4), (5, 7, 5), (6, 5, 4), (6, 7, 5), (12, 7, 14), (12, 9, 12), (14, 7, 12)):
             rows = gleaming("GLEAMING", pixels, lambda x, y: 145 * ((2 * x + y) % apart < thick / pixels))
             self.all_say(f"{thick / 2} pixels, {apart} modules apart, of {pixels} pixels", rows, ["GLEAMING"])
-        for count, pixels, wide in ((30, 4, 0.14), (30, 8, 0.2), (62, 4, 0.14), (114, 8, 0.14)):
-            fold = lambda x, y: math.sin(x / 3) + math.sin(y / 2.3 + math.sin(x / 5))
+        for count, pixels, wide, a, b, c in ((30, 4, 0.14, 3, 2.3, 5), (62, 4, 0.14, 3, 2.3, 5),
+                                             (114, 8, 0.14, 3, 2.3, 5), (62, 6, 0.16, 2.4, 2, 3)):
+            fold = lambda x, y: math.sin(x / a) + math.sin(y / b + math.sin(x / c))
             message = ("GLEAMS ALONG FOLDS " * 6)[:count]
             rows = gleaming(message, pixels, lambda x, y: 130 * math.exp(-(fold(x, y) / wide) ** 2))
             self.all_say(f"folds {wide} wide, {count} letters, {pixels} pixels a module", rows, [message])
