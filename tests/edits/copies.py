@@ -104,7 +104,7 @@ def body_of(lines, start):
 def goals_of(crate):
     """By the name of an edit the goal whose answer refuses it, and the tactic where the right body needs no answer."""
     path = crates.folder(crate, "must-fail", "goals.md")
-    rows = re.findall(r"\| `(\w+)` \| `(.+)`( by grind)? \|\n", places.text_of(path) if os.path.exists(path) else "")
+    rows = re.findall(r"- `(\w+)`: `(.+)`( by grind)?\n", places.text_of(path) if os.path.exists(path) else "")
     return {name: (goal, TACTICS[how]) for name, goal, how in rows}
 
 
