@@ -4,7 +4,7 @@
 #include <stdlib.h>
 #include <string.h>
 
-enum { LEAST_STEPS = 40, MOST_STEPS = 1 << 20, MOST_PENDING = 64, NO_WAY = 4 };
+enum { LEAST_STEPS = 40, MOST_STEPS = 1 << 20, MOST_PENDING = 64 };
 enum { WORK_OF_A_STEP = 10, PIECES_AT_A_UNIT = 3 }; /* along an outline; of those that are passed over, to be joined */
 static const double BEND = 1.4; /* pixels by which a straight piece may leave its chord, however short it is */
 
@@ -18,10 +18,11 @@ struct turn {
     int step;
 };
 
+/* What is added to a dark pixel while lines are looked for, if its left side was passed on the way up. */
+enum { SEEN = 2 };
+
 struct tracing {
-    const struct plane *dark;
-    uint8_t *seen;           /* for each pixel, in rows as long as those of `dark`, whether its left side was passed on
-                                the way up */
+    struct plane *dark;
     struct turn *turns;      /* with both ends of the path */
     int count, turn_count, room;
     double least, bend;
@@ -42,8 +43,9 @@ static bool push(struct tracing *tracing, struct corner at, int step) {
     return true;
 }
 
-/* Goes around a dark area along the sides of its pixels, the area on the right, from the lower left corner of pixel (x,
- * y) upwards. Behind the last turn of the path the first one stands once more. */
+/* Goes around a dark area along the sides of its pixels, the area on the right, from the upper left corner of pixel (x,
+ * y), whose left side is the uppermost one of the path, until it has passed that upwards. So the path turns at that
+ * corner, at which the first turn stands, and once more behind the last one. */
 static bool trace(struct tracing *tracing, int x, int y) {
     ptrdiff_t row = (ptrdiff_t)tracing->dark->stride;
     /* up, right, down, left: a step, and the pixels ahead on the left and on the right */
@@ -51,19 +53,24 @@ static bool trace(struct tracing *tracing, int x, int y) {
         int x, y;
         ptrdiff_t step, left, right;
     } ways[] = {{0, -1, -row, -row - 1, -row}, {1, 0, 1, -row, 0}, {0, 1, row, 0, -1}, {-1, 0, -1, -1, -row - 1}};
-    const uint8_t *start = pixel_of(tracing->dark, x, y + 1), *at = start; /* to the lower right of the corner */
-    struct corner corner = {x, y + 1};
-    unsigned way = 0, before = NO_WAY;
+    uint8_t *start = own_pixel_of(tracing->dark, x, y), *at = start; /* to the lower right of the corner */
+    struct corner corner = {x, y};
+    unsigned way = 0;
     int count = 0;
     tracing->turn_count = 0;
     do {
-        if (way == 0)
-            tracing->seen[at - tracing->dark->pixels - row] = 1;
-        corner.x += ways[way].x, corner.y += ways[way].y, at += ways[way].step;
-        unsigned next = at[ways[way].left] != 0 ? (way + 3) % 4 : at[ways[way].right] == 0 ? (way + 1) % 4 : way;
-        if (next != before && count < MOST_STEPS && !push(tracing, corner, count))
+        if (count < MOST_STEPS && !push(tracing, corner, count))
             return false;
-        count += count < MOST_STEPS, before = way = next;
+        way = (at[ways[way].left] != 0 ? way + 3 : way + 1) % 4;
+        ptrdiff_t step = ways[way].step, left = ways[way].left, right = ways[way].right;
+        int steps = 0;
+        do {
+            if (way == 0)
+                at[-row] |= SEEN;
+            at += step, steps++;
+        } while (at[left] == 0 && at[right] != 0);
+        corner.x += steps * ways[way].x, corner.y += steps * ways[way].y;
+        count = count + steps < MOST_STEPS ? count + steps : MOST_STEPS;
     } while (at != start || way != 0);
     tracing->count = count;
     limit_spend(tracing->limit, WORK_OF_A_STEP * (int64_t)count);
@@ -346,33 +353,40 @@ void lines_free(struct lines *lines) {
     *lines = (struct lines){0};
 }
 
-/* The first pixel of a row, from `x` on, that is dark and whose left neighbour is light; the width, if there is none.
- * The plane has a frame, and is looked at eight pixels at a time. */
+/* The first pixel of a row, from `x` on, that is dark, whose left neighbour is light and whose left side wasn't seen;
+ * the width, if there is none. The plane has a frame, and is looked at eight pixels at a time. */
 static int next_left_side(const struct plane *dark, int x, int y) {
     const uint8_t *row = pixel_of(dark, 0, y);
     for (uint64_t here, before; x + (int)sizeof here <= dark->width; x += (int)sizeof here) {
         memcpy(&here, row + x, sizeof here);
         memcpy(&before, row + x - 1, sizeof before);
-        if ((here & ~before) != 0)
+        if ((here & ~before & ~(here / SEEN) & UINT64_MAX / UINT8_MAX) != 0)
             break;
     }
-    while (x < dark->width && (row[x] == 0 || row[x - 1] != 0))
+    while (x < dark->width && (row[x] != 1 || row[x - 1] != 0))
         x++;
     return x;
 }
 
-bool find_lines(const struct plane *dark, double least, double bend, struct limit *limit, struct lines *out) {
+/* Makes those pixels 1 again whose left sides were seen. */
+static void forget_seen(struct plane *dark) {
+    for (int y = 0; y < dark->height; y++) {
+        uint8_t *row = own_pixel_of(dark, 0, y);
+        for (int x = 0; x < dark->width; x++)
+            row[x] %= SEEN;
+    }
+}
+
+bool find_lines(struct plane *dark, double least, double bend, struct limit *limit, struct lines *out) {
     struct tracing tracing = {.dark = dark, .least = least, .bend = bend, .limit = limit, .lines = out};
-    tracing.seen = calloc(dark->stride, (size_t)dark->height);
-    bool enough = tracing.seen != NULL;
+    bool enough = true;
     out->count = 0;
     for (int y = 0; enough && y < dark->height && (y % 32 > 0 || !limit_reached(limit)); y++) {
         limit_spend(limit, dark->width / 4);
         for (int x = next_left_side(dark, 0, y); enough && x < dark->width; x = next_left_side(dark, x + 1, y))
-            enough = tracing.seen[(size_t)y * dark->stride + (size_t)x] ||
-                     (trace(&tracing, x, y) && (tracing.count < LEAST_STEPS || cut(&tracing)));
+            enough = trace(&tracing, x, y) && (tracing.count < LEAST_STEPS || cut(&tracing));
     }
-    free(tracing.seen);
+    forget_seen(dark);
     free(tracing.turns);
     return enough && join(out, dark, limit);
 }

@@ -74,6 +74,11 @@ static inline const uint8_t *pixel_of(const struct plane *plane, int column, int
     return plane->pixels + (ptrdiff_t)row * (ptrdiff_t)plane->stride + column;
 }
 
+/* The same of a plane that is owned. */
+static inline uint8_t *own_pixel_of(struct plane *plane, int column, int row) {
+    return plane->owned + (pixel_of(plane, column, row) - plane->owned);
+}
+
 /* Whether the plane shows a point. */
 static inline bool shows(const struct plane *plane, struct point at) {
     return at.x >= 0 && at.y >= 0 && at.x < plane->width && at.y < plane->height;

@@ -6,7 +6,7 @@
 /* ---- As a share of the ground, which is the picture, halved, without gleams, and without what is dark and smaller
  * than a window */
 
-enum { WINDOW = 40, WHITE = 240, LEAST_GROUND = 8, LEVELS_OF_GREY = 256, FIXED = 16 }; /* pixels, levels */
+enum { WINDOW = 40, WHITE = 240, LEAST_GROUND = 8, FIXED = 16 }; /* pixels, levels */
 enum { LEAST_HALVED = 16, ENDS = 3 }; /* how many more means a row has at its ends than there are */
 
 /* The ground of a picture without gleams thinner than so many pixels, halved if it isn't tiny: how often. */
@@ -49,46 +49,44 @@ static void ground_along(const struct plane *ground, int y, int halvings, uint16
     out[0] = out[1], out[ground->width + 1] = out[ground->width + 2] = out[ground->width];
 }
 
-/* How bright the ground is of the pixels of a row, by that along it, which lies so many halvings apart: of every pixel,
- * or every other one from number `first` on. In lanes. */
-static void spread_ground(const uint16_t *restrict ground, int width, int halvings, int first, uint8_t *restrict to) {
-    int unit = 2 << halvings, at = 2 * first + 1 + unit / 2, count = (width - first + unit / 2 - 1) >> halvings;
-    uint16_t right = (uint16_t)(at & (unit - 1)), left = (uint16_t)(unit - right);
-    const uint16_t *here = ground + (at >> (halvings + 1));
-    for (int x = 0; x < count; x++)
-        to[x] = (uint8_t)((uint16_t)(here[x] * left + here[x + 1] * right) >> 2 * (halvings + 1));
+/* How bright the ground is of each pixel of a row, by that along it, which lies so many halvings apart. `to` has room
+ * for one pixel more. In lanes. */
+static void spread_ground(const uint16_t *restrict ground, int width, int halvings, uint8_t *restrict to) {
+    for (int x = 0; x < width && halvings == 0; x++)
+        to[x] = (uint8_t)(ground[x + 1] >> 1);
+    for (int x = 0; x < (width + 1) / 2 && halvings > 0; x++) {
+        to[2 * x] = (uint8_t)((ground[x] + 3 * ground[x + 1]) >> 4);
+        to[2 * x + 1] = (uint8_t)((3 * ground[x + 1] + ground[x + 2]) >> 4);
+    }
 }
 
-/* A row as a share of the ground along it, by the shares of a level of each. `levels` has room for a row. */
-static void compare_row(const uint8_t *row, int width, const uint16_t *ground, int halvings, const uint32_t *shares,
-                        uint8_t *levels, uint8_t *to) {
-    for (int first = 0; first < 1 << halvings; first++) {
-        const uint8_t *level = levels;
-        spread_ground(ground, width, halvings, first, levels);
-        for (int x = first; x < width; x += 1 << halvings) {
-            uint32_t share = (row[x] * shares[*level++]) >> FIXED;
-            to[x] = (uint8_t)(share > 255 ? 255 : share);
-        }
+/* A row as a share of its ground. In lanes, so without a table: the quotient, cut to a whole number, is exact, as a
+ * float's 24 bits tell it from the next one. */
+static void compare_row(const uint8_t *restrict row, const uint8_t *restrict ground, int width, uint8_t *restrict to) {
+    for (int x = 0; x < width; x++) {
+        int level = ground[x] > LEAST_GROUND ? ground[x] : LEAST_GROUND,
+            of_a_level = (int)((float)(WHITE << FIXED) / (float)level);
+        uint16_t whole = (uint16_t)(of_a_level >> FIXED), rest = (uint16_t)of_a_level,
+                 share = (uint16_t)(row[x] * whole + (uint16_t)((uint32_t)row[x] * rest >> FIXED));
+        to[x] = (uint8_t)(share > 255 ? 255 : share);
     }
 }
 
 bool plane_compare(const struct plane *from, int gleam, struct limit *limit, struct plane *out, bool *is_even_ground) {
     struct plane ground;
-    uint32_t shares[LEVELS_OF_GREY];
     int halvings, y = 0;
     *out = (struct plane){0};
     if (!ground_of(from, gleam, limit, &ground, &halvings))
         return false;
     *is_even_ground = is_even(&ground);
-    for (int level = 0; level < LEVELS_OF_GREY; level++)
-        shares[level] = ((uint32_t)WHITE << FIXED) / (uint32_t)(level > LEAST_GROUND ? level : LEAST_GROUND);
     uint8_t *to = plane_make(from->width, from->height, 0, out);
     uint16_t *along = malloc(sizeof *along * ((size_t)ground.width + ENDS));
-    uint8_t *levels = malloc((size_t)from->width);
+    uint8_t *levels = malloc((size_t)from->width + 1);
     for (; to != NULL && along != NULL && levels != NULL && y < from->height && leaves(limit, y, 3 * from->width);
          y++, to += out->stride) {
         ground_along(&ground, y, halvings, along);
-        compare_row(pixel_of(from, 0, y), from->width, along, halvings, shares, levels, to);
+        spread_ground(along, from->width, halvings, levels);
+        compare_row(pixel_of(from, 0, y), levels, from->width, to);
     }
     free(levels);
     free(along);

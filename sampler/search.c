@@ -25,7 +25,6 @@ bool is_over(const struct search *search) {
 
 void blank_found(const struct search *search, int level, struct plane *plane) {
     double scale = 1 << level;
-    uint8_t *pixels = plane->owned + (plane->pixels - plane->owned);
     for (size_t k = 0; k < search->count; k++) {
         ecc200_sample_point corners[4];
         double least_x = plane->width, least_y = plane->height, most_x = 0, most_y = 0;
@@ -37,7 +36,7 @@ void blank_found(const struct search *search, int level, struct plane *plane) {
         for (int y = nearest_pixel(least_y, plane->height, 0); y <= nearest_pixel(most_y, plane->height, 0); y++)
             for (int x = nearest_pixel(least_x, plane->width, 0); x <= nearest_pixel(most_x, plane->width, 0); x++)
                 if (lies_within(corners, point_at((x + 0.5) * scale, (y + 0.5) * scale)))
-                    pixels[(size_t)y * plane->stride + (size_t)x] = 0;
+                    *own_pixel_of(plane, x, y) = 0;
     }
 }
 
@@ -100,7 +99,7 @@ static void search_elbows(struct search *search, const struct sight *sight, int 
 }
 
 /* Finds the elbows of a level of the picture. False if there is no memory. */
-static bool find_all_elbows(struct search *search, int level, const struct plane *dark, struct elbows *out) {
+static bool find_all_elbows(struct search *search, int level, struct plane *dark, struct elbows *out) {
     struct sought in = {dark, &search->lines, &search->known, 1 << level};
     return find_lines(dark, LEAST_LINE, search->bend, search->judge.limit, &search->lines) &&
            find_elbows(&in, search->judge.limit, out);
