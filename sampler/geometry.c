@@ -74,16 +74,32 @@ bool solve_both(double *a, double *b, double *c, int n) {
     return solve_sides(a, sides, 2, n);
 }
 
+/* Of the last of four points, how much of each of the others makes it up: twice the areas that it spans with two. */
+static void find_shares(const struct point points[4], double shares[3]) {
+    struct point one = difference(points[1], points[0]), other = difference(points[2], points[0]),
+                 last = difference(points[3], points[0]);
+    shares[1] = cross(last, other), shares[2] = cross(one, last);
+    shares[0] = cross(one, other) - shares[1] - shares[2];
+}
+
+/* Three points make up all others, and their images the images of these: how much each of the images counts for, the
+ * fourth point tells. */
 bool through(const struct point from[4], const struct point to[4], struct homography *out) {
-    double a[64] = {0}, b[8];
-    for (int k = 0; k < 4; k++) {
-        double x = from[k].x, y = from[k].y, *first = a + 16 * k, *second = first + 8;
-        first[0] = second[3] = x, first[1] = second[4] = y, first[2] = second[5] = 1;
-        first[6] = -x * to[k].x, first[7] = -y * to[k].x, b[2 * k] = to[k].x;
-        second[6] = -x * to[k].y, second[7] = -y * to[k].y, b[2 * k + 1] = to[k].y;
+    double shares[3], of_images[3], sums[3][3] = {{0}};
+    find_shares(from, shares);
+    find_shares(to, of_images);
+    for (int k = 0; k < 3; k++) {
+        struct point next = from[(k + 1) % 3], after = from[(k + 2) % 3];
+        double factor = of_images[k] / shares[k], image[3] = {factor * to[k].x, factor * to[k].y, factor},
+               share[3] = {next.y - after.y, after.x - next.x, cross(next, after)};
+        for (int row = 0; row < 3; row++)
+            for (int column = 0; column < 3; column++)
+                sums[row][column] += image[row] * share[column];
     }
-    if (!solve(a, b, 8))
+    double whole = sums[2][2];
+    if (!(fabs(whole) > 1e-12 && fabs(whole) < INFINITY))
         return false;
-    *out = (struct homography){{{b[0], b[1], b[2]}, {b[3], b[4], b[5]}, {b[6], b[7], 1}}};
+    for (int k = 0; k < 3 * 3; k++)
+        out->m[k / 3][k % 3] = sums[k / 3][k % 3] / whole;
     return true;
 }

@@ -353,16 +353,27 @@ void lines_free(struct lines *lines) {
     *lines = (struct lines){0};
 }
 
-/* The first pixel of a row, from `x` on, that is dark, whose left neighbour is light and whose left side wasn't seen;
- * the width, if there is none. The plane has a frame, and is looked at eight pixels at a time. */
-static int next_left_side(const struct plane *dark, int x, int y) {
-    const uint8_t *row = pixel_of(dark, 0, y);
-    for (uint64_t here, before; x + (int)sizeof here <= dark->width; x += (int)sizeof here) {
-        memcpy(&here, row + x, sizeof here);
-        memcpy(&before, row + x - 1, sizeof before);
-        if ((here & ~before & ~(here / SEEN) & UINT64_MAX / UINT8_MAX) != 0)
-            break;
+/* Whether one of some pixels is dark, its left neighbour light, and its left side not seen. */
+static inline bool has_left_side(const uint8_t *row, size_t pixels) {
+    uint64_t found = 0;
+    for (size_t k = 0; k < pixels; k += sizeof found) {
+        uint64_t here, before;
+        memcpy(&here, row + k, sizeof here);
+        memcpy(&before, row + k - 1, sizeof before);
+        found |= here & ~before & ~(here / SEEN);
     }
+    return (found & UINT64_MAX / UINT8_MAX) != 0;
+}
+
+/* The first such pixel of a row, from `x` on; the width, if there is none. The plane has a frame, and is looked at many
+ * pixels at a time. */
+static int next_left_side(const struct plane *dark, int x, int y) {
+    enum { FEW = 8, MANY = 32 };
+    const uint8_t *row = pixel_of(dark, 0, y);
+    while (x + MANY <= dark->width && !has_left_side(row + x, MANY))
+        x += MANY;
+    while (x + FEW <= dark->width && !has_left_side(row + x, FEW))
+        x += FEW;
     while (x < dark->width && (row[x] != 1 || row[x - 1] != 0))
         x++;
     return x;
@@ -370,9 +381,10 @@ static int next_left_side(const struct plane *dark, int x, int y) {
 
 /* Makes those pixels 1 again whose left sides were seen. */
 static void forget_seen(struct plane *dark) {
+    int width = dark->width;
     for (int y = 0; y < dark->height; y++) {
         uint8_t *row = own_pixel_of(dark, 0, y);
-        for (int x = 0; x < dark->width; x++)
+        for (int x = 0; x < width; x++)
             row[x] %= SEEN;
     }
 }

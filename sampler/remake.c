@@ -24,19 +24,27 @@ static bool ground_of(const struct plane *from, int gleam, struct limit *limit, 
     return is_made;
 }
 
+/* Whether one of some pixels differs from another one by more than a small share. In lanes. */
+static bool is_apart(const uint8_t *pixels, const uint8_t *others, int count) {
+    enum { SHARE = 8 }; /* one of so many parts */
+    uint8_t apart = 0;
+    for (int k = 0; k < count; k++) {
+        uint8_t here = pixels[k], other = others[k], least = here < other ? here : other, most = here < other ? other : here;
+        apart |= (uint8_t)(most - least) > here / SHARE;
+    }
+    return apart != 0;
+}
+
 /* Whether the ground is nowhere darker or lighter than near by, by more than a small share. */
 static bool is_even(const struct plane *ground) {
-    enum { NEAR = 8, SHARE = 8 }; /* pixels of the ground; one of so many parts */
-    int most = 0;
-    for (int y = 0; y < ground->height && most == 0; y++) {
+    enum { NEAR = 8 }; /* pixels of the ground */
+    bool is_uneven = false;
+    for (int y = 0; y < ground->height && !is_uneven; y++) {
         const uint8_t *row = pixel_of(ground, 0, y),
                       *below = pixel_of(ground, 0, nearest_pixel(y + NEAR, ground->height, 0));
-        for (int x = 0; x + NEAR < ground->width; x++) {
-            int across = abs(row[x] - row[x + NEAR]), down = abs(row[x] - below[x]);
-            most |= SHARE * across > row[x] || SHARE * down > row[x];
-        }
+        is_uneven = is_apart(row, row + NEAR, ground->width - NEAR) || is_apart(row, below, ground->width - NEAR);
     }
-    return most == 0;
+    return !is_uneven;
 }
 
 /* The ground along a row of pixels, and at the ends the nearest: between two rows of it. */

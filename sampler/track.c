@@ -213,39 +213,46 @@ static void find_tracks(const struct scene *scene, const struct start starts[2],
 /* ---- The size */
 
 struct fit {
-    int right, counted, solid, solid_counted;
+    int wrong, counted, solid;
 };
 
 /* Looks at a module of an alternating border between its two neighbours on it: it should be darker than these, or
  * lighter. */
 static void look(const int of[3], bool is_dark, struct fit *fit) {
     int bend = of[0] + of[2] - 2 * of[1];
-    fit->right += is_dark ? bend > 0 : bend < 0;
-    fit->counted++;
+    fit->wrong += is_dark ? bend <= 0 : bend >= 0;
 }
 
 static void keep_last(int of[3], int level) {
     of[0] = of[1], of[1] = of[2], of[2] = level;
 }
 
-/* How well the outer border of a placement shows. */
-static struct fit fit_of(const struct scene *scene, const struct homography *to_picture, struct extent extent) {
-    struct fit fit = {.solid_counted = extent.wide + extent.high};
-    double right = extent.wide - 0.5, below = extent.high - 0.5;
-    int of[3] = {0};
-    for (int k = 0; k < extent.wide; k++) {
+/* What the modules of the solid and of the alternating borders count for in a score. */
+static const double OF_SOLID = 0.25, OF_TRACK = 0.75;
+
+/* How well the outer border of a placement shows; 0 if it doesn't, or not better than `best`. */
+static double score_of(const struct scene *scene, const struct homography *to_picture, struct extent extent,
+                       double best) {
+    double right = extent.wide - 0.5, below = extent.high - 0.5, sides = extent.wide + extent.high,
+           least = is_square(extent) ? LEAST_TRACK : LEAST_TRACK_OF_RECTANGLE;
+    struct fit fit = {.counted = extent.wide + extent.high - 4};
+    int most_wrong = (int)((1 - fmax(least, (best - OF_SOLID) / OF_TRACK)) * fit.counted) + 1, of[3] = {0};
+    for (int k = 0; k < extent.wide && fit.wrong <= most_wrong; k++) {
         keep_last(of, grey_at(scene->grey, map_point(to_picture, k + 0.5, 0.5)));
-        fit.solid += dark_at(scene->dark, map_point(to_picture, k + 0.5, below));
         if (k >= 2)
             look(of, k % 2 == 1, &fit);
     }
-    for (int k = 0; k < extent.high; k++) {
+    for (int k = 0; k < extent.high && fit.wrong <= most_wrong; k++) {
         keep_last(of, grey_at(scene->grey, map_point(to_picture, right, k + 0.5)));
-        fit.solid += dark_at(scene->dark, map_point(to_picture, 0.5, k + 0.5));
         if (k >= 2)
             look(of, k % 2 == 0, &fit);
     }
-    return fit;
+    for (int k = 0; k < extent.wide && fit.wrong <= most_wrong; k++)
+        fit.solid += dark_at(scene->dark, map_point(to_picture, k + 0.5, below));
+    for (int k = 0; k < extent.high && fit.wrong <= most_wrong; k++)
+        fit.solid += dark_at(scene->dark, map_point(to_picture, 0.5, k + 0.5));
+    double track = (double)(fit.counted - fit.wrong) / fit.counted, solid = fit.solid / sides;
+    return solid < LEAST_SOLID || track < least ? 0 : OF_TRACK * track + OF_SOLID * solid;
 }
 
 static void keep_best(struct placement out[MOST_PLACEMENTS], int *count, struct placement placement) {
@@ -269,7 +276,7 @@ struct frame {
 static struct placement best_near(const struct scene *scene, const struct frame *frame, struct extent extent,
                                   double reach, double step) {
     struct placement best = {.extent = extent, .score = 0};
-    double least = is_square(extent) ? LEAST_TRACK : LEAST_TRACK_OF_RECTANGLE, places = 2 * reach / step + 1;
+    double places = 2 * reach / step + 1;
     struct point along = scale_by(difference(frame->pixels[3], frame->pixels[0]), 1.0 / extent.wide);
     struct point down = scale_by(difference(frame->pixels[2], frame->pixels[3]), 1.0 / extent.high);
     for (double x = -reach; x <= reach; x += step)
@@ -279,9 +286,7 @@ static struct placement best_near(const struct scene *scene, const struct frame 
             struct homography to_picture;
             if (!through(frame->modules, pixels, &to_picture))
                 continue;
-            struct fit fit = fit_of(scene, &to_picture, extent);
-            double track = (double)fit.right / fit.counted, solid = (double)fit.solid / fit.solid_counted;
-            double score = solid < LEAST_SOLID || track < least ? 0 : 0.75 * track + 0.25 * solid;
+            double score = score_of(scene, &to_picture, extent, best.score);
             if (score > best.score)
                 best.score = score, best.warp = flat_warp(&to_picture);
         }
