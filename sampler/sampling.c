@@ -40,8 +40,13 @@ static double place_of(int count, int k) {
     return (k + 0.5) / count - 0.5;
 }
 
-static double level_at(const struct level *level, struct extent extent, int column, int row) {
-    return level->a + level->b * place_of(extent.wide, column) + level->c * place_of(extent.high, row);
+static void find_places(int count, double *places) {
+    for (int k = 0; k < count; k++)
+        places[k] = place_of(count, k);
+}
+
+static double level_at(const struct level *level, double x, double y) {
+    return level->a + level->b * x + level->c * y;
 }
 
 /* What is summed up to fit a level: of the modules, of their products with x and y, and of these with the brightness.
@@ -59,8 +64,7 @@ static void add_module(struct sums *sums, double x, double y, double v) {
 static void sum_up(const float *of, struct extent extent, const uint8_t *class, const struct levels *before,
                    double most, struct sums out[2]) {
     double places[MOST_SIDE];
-    for (int column = 0; column < extent.wide; column++)
-        places[column] = place_of(extent.wide, column);
+    find_places(extent.wide, places);
     for (int row = 0; row < extent.high; row++) {
         double y = place_of(extent.high, row);
         for (int column = 0; column < extent.wide; column++, of++, class++) {
@@ -107,7 +111,7 @@ static float around(const struct brightnesses *from, const struct levels *levels
     if (x >= 0 && y >= 0 && x < wide && y < high)
         return from->of[y * wide + x];
     int column = x < 0 ? 0 : x >= wide ? wide - 1 : x, row = y < 0 ? 0 : y >= high ? high - 1 : y;
-    return (float)level_at(&levels->of[LIGHT], from->extent, column, row);
+    return (float)level_at(&levels->of[LIGHT], place_of(wide, column), place_of(high, row));
 }
 
 static void sharpen(const struct brightnesses *from, const struct levels *levels, double by, float *out) {
@@ -122,10 +126,8 @@ static void sharpen(const struct brightnesses *from, const struct levels *levels
 }
 
 /* Whether a module that is so bright is dark: nearer to that level than to the light one, but for an offset. */
-static bool is_dark_at(const struct levels *levels, struct extent extent, double offset, float here, int column,
-                       int row) {
-    double light = level_at(&levels->of[LIGHT], extent, column, row),
-           dark = level_at(&levels->of[DARK], extent, column, row);
+static bool is_dark_at(const struct levels *levels, double offset, float here, double x, double y) {
+    double light = level_at(&levels->of[LIGHT], x, y), dark = level_at(&levels->of[DARK], x, y);
     return here < dark + (0.5 + offset) * (light - dark);
 }
 
@@ -134,6 +136,8 @@ static bool is_dark_at(const struct levels *levels, struct extent extent, double
 void begin_telling(const struct brightnesses *from, const struct layout *layout, const uint8_t *colour,
                    struct telling *out) {
     out->from = from, out->layout = layout, out->colour = colour;
+    find_places(layout->extent.wide, out->across);
+    find_places(layout->extent.high, out->down);
     for (int way = 0; way < SHARPENINGS; way++)
         out->ways[way].by_border.state = out->ways[way].by_all.state = NOT_TRIED;
 }
@@ -158,8 +162,9 @@ static bool fit_by_all(struct telling *telling, enum sharpening way) {
     struct sharpened *to = &telling->ways[way];
     const struct levels *levels = levels_of(telling, way, false);
     for (int round = 0; round < 2 && levels != NULL; round++) {
-        for (int k = 0; k < extent.wide * extent.high; k++)
-            class[k] = is_dark_at(levels, extent, 0, to->of[k], k % extent.wide, k / extent.wide);
+        for (int row = 0, k = 0; row < extent.high; row++)
+            for (int column = 0; column < extent.wide; column++, k++)
+                class[k] = is_dark_at(levels, 0, to->of[k], telling->across[column], telling->down[row]);
         levels = fit_levels(to->of, extent, class, &to->by_all.levels) ? &to->by_all.levels : NULL;
     }
     return levels != NULL;
@@ -180,6 +185,7 @@ struct teller {
     struct extent extent;
     const struct levels *levels;
     double contrast;
+    const double *across, *down; /* the places of columns and rows */
     struct division *divisions; /* of the squares, which are found when they are first asked for */
 };
 
@@ -271,9 +277,9 @@ static bool is_dark_cleanly(const struct teller *by, int column, int row, bool i
 
 /* ---- By a rule */
 
-static bool is_dark(const struct teller *by, int module) {
-    int column = module % by->extent.wide, row = module / by->extent.wide;
-    bool is_dark = is_dark_at(by->levels, by->extent, by->rule.offset, by->of[module], column, row);
+static bool is_dark(const struct teller *by, int column, int row) {
+    float here = by->of[row * by->extent.wide + column];
+    bool is_dark = is_dark_at(by->levels, by->rule.offset, here, by->across[column], by->down[row]);
     return by->rule.is_cleanest  ? is_dark_cleanly(by, column, row, is_dark)
            : by->rule.around > 0 ? is_dark_around(by, column, row, is_dark)
                                  : is_dark;
@@ -284,7 +290,8 @@ static bool shows_border(const struct teller *by, const struct telling *telling,
     int wrong = 0;
     for (int k = 0; k < telling->layout->border_count && wrong <= most; k++) {
         int module = telling->layout->border[k], colour = telling->colour[module];
-        wrong += colour != UNKNOWN && is_dark(by, module) != (colour == DARK);
+        wrong += colour != UNKNOWN &&
+                 is_dark(by, module % by->extent.wide, module / by->extent.wide) != (colour == DARK);
     }
     return wrong <= most;
 }
@@ -295,12 +302,14 @@ enum told tell_apart(struct telling *telling, struct rule rule, int most, uint8_
     if (levels == NULL)
         return NO_CONTRAST;
     const float *of = telling->ways[rule.sharpening].of;
-    struct teller by = {rule, of, extent, levels, contrast_of(levels), telling->divisions};
+    struct teller by = {rule, of, extent, levels, contrast_of(levels), telling->across, telling->down,
+                        telling->divisions};
     for (int k = 0; k < extent.wide * extent.high && rule.is_cleanest; k++)
         telling->divisions[k].share = -1;
     if (!shows_border(&by, telling, most))
         return NO_BORDER;
-    for (int k = 0; k < extent.wide * extent.high; k++)
-        modules[k] = is_dark(&by, k);
+    for (int row = 0; row < extent.high; row++)
+        for (int column = 0; column < extent.wide; column++)
+            *modules++ = is_dark(&by, column, row);
     return TOLD_APART;
 }

@@ -70,6 +70,7 @@ struct telling {
     const struct brightnesses *from;
     const struct layout *layout;
     const uint8_t *colour; /* of each module, as the layout has it, or UNKNOWN */
+    double across[MOST_SIDE], down[MOST_SIDE]; /* the places of columns and rows, from -0.5 to 0.5 */
     struct sharpened ways[SHARPENINGS];
     struct division divisions[MOST_MODULES];
 };
