@@ -245,16 +245,17 @@ static bool keep_elbows_at(const struct sought *in, int at, bool is_bottom, cons
     const struct line *line = &lines->items[at];
     struct point near = is_bottom ? line->to : line->from;
     double reach = 2 * MOST_GAP + 2 * MOST_GAP_SHARE * length(difference(line->to, line->from));
-    bool enough = true;
-    for (int k = first_from(ends, lines->count, near.y - reach);
-         enough && k < lines->count && ends[k].at.y <= near.y + reach; k++) {
-        if (ends[k].line <= at || fabs(ends[k].at.x - near.x) > reach)
+    const struct end *after = ends + lines->count;
+    for (const struct end *end = ends + first_from(ends, lines->count, near.y - reach);
+         end < after && end->at.y <= near.y + reach; end++) {
+        if (fabs(end->at.x - near.x) > reach || end->line <= at)
             continue;
-        const struct line *other = &lines->items[ends[k].line];
+        const struct line *other = &lines->items[end->line];
         struct elbow elbow = is_bottom ? elbow_of(in, line, other) : elbow_of(in, other, line);
-        enough = elbow.score <= 0 || keep(out, elbow);
+        if (elbow.score > 0 && !keep(out, elbow))
+            return false;
     }
-    return enough;
+    return true;
 }
 
 void elbows_free(struct elbows *elbows) {

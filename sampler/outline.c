@@ -160,16 +160,17 @@ static bool keep(struct lines *lines, struct line line) {
 /* At which turn the path from one turn to another is farthest from its chord, and how far: between turns it is
  * straight, and nearer than at one of them. Twice the square of a picture's side is a number. */
 static double farthest(const struct tracing *tracing, int first, int last, int *where) {
-    struct corner from = tracing->turns[first].at, to = tracing->turns[last].at;
-    int chord_x = to.x - from.x, chord_y = to.y - from.y, most = 0;
+    const struct turn *turns = tracing->turns;
+    struct corner from = turns[first].at, to = turns[last].at;
+    int chord_x = to.x - from.x, chord_y = to.y - from.y, most = 0, at = (first + last) / 2;
     bool is_closed = chord_x == 0 && chord_y == 0;
-    *where = (first + last) / 2;
     for (int k = first + 1; k < last; k++) {
-        int x = tracing->turns[k].at.x - from.x, y = tracing->turns[k].at.y - from.y,
+        int x = turns[k].at.x - from.x, y = turns[k].at.y - from.y,
             away = abs(is_closed ? x * x + y * y : chord_x * y - chord_y * x);
         if (away > most)
-            most = away, *where = k;
+            most = away, at = k;
     }
+    *where = at;
     double chord = sqrt((double)chord_x * chord_x + (double)chord_y * chord_y);
     return is_closed ? sqrt((double)most) : (double)most / chord;
 }
