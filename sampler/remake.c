@@ -29,7 +29,8 @@ static bool is_apart(const uint8_t *pixels, const uint8_t *others, int count) {
     enum { SHARE = 8 }; /* one of so many parts */
     uint8_t apart = 0;
     for (int k = 0; k < count; k++) {
-        uint8_t here = pixels[k], other = others[k], least = here < other ? here : other, most = here < other ? other : here;
+        uint8_t here = pixels[k], other = others[k], least = here < other ? here : other,
+                most = here < other ? other : here;
         apart |= (uint8_t)(most - least) > here / SHARE;
     }
     return apart != 0;

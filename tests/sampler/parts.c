@@ -37,16 +37,15 @@ static int is_work_right(void) {
 static int are_joined(int right, int down) {
     enum { WIDE = 1400, HIGH = 300, STRIDE = WIDE + 2, PIECES = 4, PIECE = 40, APART = 12 };
     static uint8_t pixels[STRIDE * (HIGH + 2)];
-    struct plane dark = {WIDE, HIGH, 1, STRIDE, pixels + STRIDE + 1, NULL};
+    struct plane dark = {WIDE, HIGH, 1, STRIDE, pixels + STRIDE + 1, pixels};
     struct limit limit = limit_from_now(ECC200_SAMPLE_ANY_TIME, ECC200_SAMPLE_ANY_EFFORT, 1);
     struct lines lines = {0};
     int is_whole = 0;
-    for (int y = 0; y < HIGH; y++)
-        for (int x = 0; x < WIDE; x++) {
-            int is_in_row = y >= down && y < down + 6 && x >= right && (x - right) % (PIECE + APART) < PIECE &&
-                            x < right + PIECES * (PIECE + APART);
-            pixels[(y + 1) * STRIDE + x + 1] = is_in_row || (y % 30 < 5 && abs(y - down) > 60 && x % 50 < 20);
-        }
+    for (int k = 0; k < WIDE * HIGH; k++) {
+        int x = k % WIDE, y = k / WIDE, is_in_row = y >= down && y < down + 6 && x >= right &&
+                            (x - right) % (PIECE + APART) < PIECE && x < right + PIECES * (PIECE + APART);
+        pixels[(y + 1) * STRIDE + x + 1] = is_in_row || (y % 30 < 5 && abs(y - down) > 60 && x % 50 < 20);
+    }
     if (find_lines(&dark, 10, 0, &limit, &lines))
         for (int k = 0; k < lines.count; k++)
             is_whole |= lines.items[k].is_joined && fabs(lines.items[k].from.y - down) < 8 &&
@@ -55,11 +54,11 @@ static int are_joined(int right, int down) {
     return is_whole;
 }
 
-/* Whether the sides of a slanted bar are found as they are drawn, within a tenth of a pixel from end to end. */
+/* Whether the sides of a slanted bar are found as drawn, within a tenth of a pixel, and the bar stays the same. */
 static int are_slanted(void) {
     enum { SIDE = 240, STRIDE = SIDE + 2, THICK = 20 };
     static uint8_t pixels[STRIDE * STRIDE];
-    struct plane dark = {SIDE, SIDE, 1, STRIDE, pixels + STRIDE + 1, NULL};
+    struct plane dark = {SIDE, SIDE, 1, STRIDE, pixels + STRIDE + 1, pixels};
     struct limit limit = limit_from_now(ECC200_SAMPLE_ANY_TIME, ECC200_SAMPLE_ANY_EFFORT, 1);
     struct lines lines = {0};
     const double slope = 0.23;
@@ -69,13 +68,12 @@ static int are_slanted(void) {
         pixels[(k / SIDE + 1) * STRIDE + k % SIDE + 1] = x > 20 && x < 220 && y > 0 && y < THICK;
     }
     if (find_lines(&dark, 100, 0, &limit, &lines))
-        for (int k = 0; k < lines.count && k < 2; k++) {
-            const struct line *line = &lines.items[k];
+        for (const struct line *line = lines.items; line < lines.items + (lines.count < 2 ? lines.count : 2); line++) {
             double upper = line->from.y - 90 - slope * line->from.x, lower = line->to.y - 90 - slope * line->to.x;
             right += fabs(upper - lower) < 0.1 && fabs(fabs(upper - THICK / 2.0) - THICK / 2.0) < 0.3;
         }
     lines_free(&lines);
-    return right == 2;
+    return right == 2 && pixels[101 * STRIDE + 21] == 1;
 }
 
 int main(void) {
