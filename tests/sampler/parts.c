@@ -42,9 +42,10 @@ static int are_joined(int right, int down) {
     struct lines lines = {0};
     int is_whole = 0;
     for (int k = 0; k < WIDE * HIGH; k++) {
-        int x = k % WIDE, y = k / WIDE, is_in_row = y >= down && y < down + 6 && x >= right &&
-                            (x - right) % (PIECE + APART) < PIECE && x < right + PIECES * (PIECE + APART);
-        pixels[(y + 1) * STRIDE + x + 1] = is_in_row || (y % 30 < 5 && abs(y - down) > 60 && x % 50 < 20);
+        int x = k % WIDE - right, y = k / WIDE - down,
+            is_in_row = y >= 0 && y < 6 && x >= 0 && x % (PIECE + APART) < PIECE && x < PIECES * (PIECE + APART),
+            is_in_rest = k / WIDE % 30 < 5 && abs(y) > 60 && k % WIDE % 50 < 20;
+        pixels[(k / WIDE + 1) * STRIDE + k % WIDE + 1] = is_in_row || is_in_rest;
     }
     if (find_lines(&dark, 10, 0, &limit, &lines))
         for (int k = 0; k < lines.count; k++)
@@ -84,10 +85,8 @@ int main(void) {
         for (int j = 0; j < COUNT; j++) {
             struct point at = point_at(TRIED[k].at, TRIED[j].at), in_frame = point_at(at.x - 1, at.y - 1);
             int is_inside = TRIED[k].side == 1 && TRIED[j].side == 1, pixel = pixels[3 * TRIED[j].side + TRIED[k].side];
-            if (!is_right(&plain, at, pixel, is_inside) || !is_right(&framed, in_frame, pixel, is_inside)) {
-                printf("%g, %g\n", at.x, at.y);
-                return 1;
-            }
+            if (!is_right(&plain, at, pixel, is_inside) || !is_right(&framed, in_frame, pixel, is_inside))
+                return printf("%g, %g\n", at.x, at.y) > 0;
         }
     int is_joined = are_joined(3, 4) && are_joined(1100, 250) && are_joined(600, 150);
     printf("%s%s%s", is_work_right() ? "" : "work", is_joined ? "" : "joined", are_slanted() ? "" : "slanted");
