@@ -67,32 +67,58 @@ static void keep_seed(struct seeds *seeds, struct seed seed) {
     seeds->items[at] = seed;
 }
 
-static void search_spot(struct search *search, const struct view *view, const struct plane *steep,
-                        const struct spot *spot, struct field *field) {
+/* The lattices whose first modules fit, the likeliest first. */
+struct begun {
+    struct lattice items[2 * MOST_LATTICES * SPOTS];
+    int count;
+};
+
+static void keep_begun(struct begun *begun, const struct lattice *lattice) {
+    int at = begun->count++;
+    for (; at > 0 && begun->items[at - 1].near < lattice->near; at--)
+        begun->items[at] = begun->items[at - 1];
+    begun->items[at] = *lattice;
+}
+
+/* Begins the lattices of a place. */
+static void begin_at(struct search *search, const struct view *view, const struct plane *steep,
+                     const struct ground *ground, const struct spot *spot, struct begun *begun) {
     struct homography lattices[2 * MOST_LATTICES];
     struct lattice lattice;
-    int of_picture = view->sight->level + view->level;
-    struct ground ground = {grey_of(view), &search->known, 1 << of_picture};
-    struct point middle =
-        point_at((spot->x + WINDOW_SIDE / 2) << of_picture, (spot->y + WINDOW_SIDE / 2) << of_picture);
-    if (is_known_at(&search->known, middle))
-        return;
     /* Edges are seen by what is steep, and dots that don't touch by what is dark: thicker ones touch. */
     limit_spend(search->judge.limit, WORK_OF_A_WINDOW);
     int count = find_lattices(steep, spot->x, spot->y, 0.5, lattices);
     if (view->tries.lattices > MOST_LATTICES)
-        count += find_lattices(ground.grey, spot->x, spot->y, 0, lattices + count);
-    size_t before = search->count;
+        count += find_lattices(ground->grey, spot->x, spot->y, 0, lattices + count);
     struct seed seed = {.level = view->level};
-    for (int k = 0; k < count && k < view->tries.lattices && !is_over(search) && search->count == before; k++) {
-        bool holds = grow_lattice(&ground, &lattices[k], search->judge.places, search->judge.limit, &lattice);
-        if (holds && is_large(&lattice))
-            search_field(search, view, &lattice, field);
+    for (int k = 0; k < count && k < view->tries.lattices; k++) {
+        if (begin_lattice(ground, &lattices[k], search->judge.places, &lattice))
+            keep_begun(begun, &lattice);
         if (lattice.near > seed.near)
             seed.to_picture = lattice.warp.to_picture, seed.near = lattice.near;
     }
     if (view->inverted != NULL && seed.near >= LEAST_OF_SEED)
         keep_seed(&search->seeds, seed);
+}
+
+/* Searches what grows at some places. */
+static void search_spots(struct search *search, const struct view *view, const struct plane *steep,
+                         const struct spot *spots, int count, struct field *field) {
+    struct begun begun = {.count = 0};
+    struct ground ground = {grey_of(view), &search->known, 1 << (view->sight->level + view->level)};
+    for (int k = 0; k < count && !is_over(search); k++) {
+        struct point middle = point_at(spots[k].x + WINDOW_SIDE / 2, spots[k].y + WINDOW_SIDE / 2);
+        if (!is_known_at(&search->known, scale_by(middle, ground.scale)))
+            begin_at(search, view, steep, &ground, &spots[k], &begun);
+    }
+    for (int k = 0; k < begun.count && !is_over(search); k++) {
+        struct lattice *lattice = &begun.items[k];
+        if (is_known_at(&search->known, scale_by(warp_point(&lattice->warp, 0, 0), ground.scale)))
+            continue;
+        grow_lattice(&ground, search->judge.places, search->judge.limit, lattice);
+        if (is_large(lattice))
+            search_field(search, view, lattice, field);
+    }
 }
 
 void search_lattices(struct search *search, const struct sight *sight, const struct sight *inverted, int level) {
@@ -105,7 +131,7 @@ void search_lattices(struct search *search, const struct sight *sight, const str
         blank_found(search, sight->level + level, &steep);
     int count = is_made ? find_spots(&steep, search->most_steep, search->judge.limit, spots, view.tries.spots) : 0;
     for (int k = 0; k < count && !is_over(search); k++)
-        search_spot(search, &view, &steep, &spots[k], field);
+        search_spots(search, &view, &steep, &spots[k], 1, field);
     note_lack(search, is_made && count >= 0);
     free(field);
     plane_free(&steep);

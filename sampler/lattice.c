@@ -2,9 +2,9 @@
 
 #include "witness.h"
 
-enum { FIRST_REACH = 4, STEP = 2, SIDES_OF_A_PART = 4 };
+enum { FIRST_REACH = 4, LEAST_STEP = 2, STEPS = 16, SIDES_OF_A_PART = 4 };
 static const double LEAST_CLEAR = 0.12; /* of the places between modules, of which about half have an edge */
-static const double LEAST_NEAR = 0.5;   /* of the clear edges */
+static const double LEAST_NEAR = 0.55;  /* of the clear edges */
 /* Of those of its first modules: of the lattice that two waves give, which isn't fitted to edges yet, and then. */
 static const double LEAST_UNFITTED = 0.35, LEAST_FIRST = 0.6;
 static const double LEAST_SHARE = 0.35; /* of the mean contrast, for an edge to be clear */
@@ -50,13 +50,20 @@ static double near_in(const struct ground *ground, struct layout *room, const st
     return support.clear >= LEAST_CLEAR ? support.near : 0;
 }
 
+/* How many modules a part grows by: few, or one of so many of it, which saves many small steps of a large one. */
+static int step_of(struct part part) {
+    int wide = part.last_x - part.first_x, high = part.last_y - part.first_y, shorter = wide < high ? wide : high;
+    return shorter / STEPS > LEAST_STEP ? shorter / STEPS : LEAST_STEP;
+}
+
 /* The strip of modules just outside one side of a part. */
 static struct part strip_beside(struct part part, int side) {
+    int step = step_of(part);
     switch (side) {
-    case 0: return (struct part){part.first_x - STEP, part.first_x, part.first_y, part.last_y};
-    case 1: return (struct part){part.last_x, part.last_x + STEP, part.first_y, part.last_y};
-    case 2: return (struct part){part.first_x, part.last_x, part.first_y - STEP, part.first_y};
-    default: return (struct part){part.first_x, part.last_x, part.last_y, part.last_y + STEP};
+    case 0: return (struct part){part.first_x - step, part.first_x, part.first_y, part.last_y};
+    case 1: return (struct part){part.last_x, part.last_x + step, part.first_y, part.last_y};
+    case 2: return (struct part){part.first_x, part.last_x, part.first_y - step, part.first_y};
+    default: return (struct part){part.first_x, part.last_x, part.last_y, part.last_y + step};
     }
 }
 
@@ -67,45 +74,42 @@ static struct part both_of(struct part one, struct part other) {
                          one.last_y > other.last_y ? one.last_y : other.last_y};
 }
 
-/* Grows the lattice to those sides that still fit; false if none does. */
-static bool grow(const struct ground *ground, struct layout *room, double least, bool fits[SIDES_OF_A_PART],
-                 struct lattice *lattice) {
+/* Grows the lattice to those sides that fit; false if none does. One that doesn't may later, by what has grown beside.
+ */
+static bool grow(const struct ground *ground, struct layout *room, struct lattice *lattice) {
     struct part before = lattice->part;
     bool grows = false;
-    double mean;
+    double mean, least = LEAST_SHARE * lattice->contrast;
     for (int side = 0; side < SIDES_OF_A_PART; side++) {
         struct part strip = strip_beside(before, side);
-        fits[side] = fits[side] && near_in(ground, room, lattice, strip, least, 0, &mean) >= LEAST_NEAR;
-        if (fits[side])
+        if (near_in(ground, room, lattice, strip, least, 0, &mean) >= LEAST_NEAR)
             grows = true, lattice->part = both_of(lattice->part, strip);
     }
     return grows;
 }
 
 static bool has_room(struct part part) {
-    return part.last_x - part.first_x + 2 * STEP <= MOST_EXTENT && part.last_y - part.first_y + 2 * STEP <= MOST_EXTENT;
+    int both = 2 * step_of(part);
+    return part.last_x - part.first_x + both <= MOST_EXTENT && part.last_y - part.first_y + both <= MOST_EXTENT;
 }
 
-bool grow_lattice(const struct ground *ground, const struct homography *to_picture, struct layout *room,
-                  struct limit *limit, struct lattice *out) {
+bool begin_lattice(const struct ground *ground, const struct homography *to_picture, struct layout *room,
+                   struct lattice *out) {
     const struct plane *grey = ground->grey;
-    struct lattice lattice = {settled(grey, to_picture), {-FIRST_REACH, FIRST_REACH, -FIRST_REACH, FIRST_REACH}, 0};
-    bool fits[SIDES_OF_A_PART] = {true, true, true, true};
-    double mean = 0;
-    lattice.near = near_in(ground, room, &lattice, lattice.part, 0, LEAST_SHARE, &mean);
-    if (lattice.near >= LEAST_UNFITTED) {
-        refine(grey, room, lattice.part, STIFF, 3, 0, &lattice.warp);
-        lattice.near = near_in(ground, room, &lattice, lattice.part, 0, LEAST_SHARE, &mean);
+    *out = (struct lattice){settled(grey, to_picture), {-FIRST_REACH, FIRST_REACH, -FIRST_REACH, FIRST_REACH}, 0, 0};
+    out->near = near_in(ground, room, out, out->part, 0, LEAST_SHARE, &out->contrast);
+    if (out->near >= LEAST_UNFITTED) {
+        refine(grey, room, out->part, STIFF, 3, 0, &out->warp);
+        out->near = near_in(ground, room, out, out->part, 0, LEAST_SHARE, &out->contrast);
     }
-    *out = lattice;
-    if (lattice.near < LEAST_FIRST)
-        return false;
-    lattice.warp.is_bent = true;
-    while (!limit_reached(limit) && has_room(lattice.part) && grow(ground, room, LEAST_SHARE * mean, fits, &lattice)) {
-        lay_out_places(room, lattice.part);
+    return out->near >= LEAST_FIRST;
+}
+
+void grow_lattice(const struct ground *ground, struct layout *room, struct limit *limit, struct lattice *lattice) {
+    lattice->warp.is_bent = true;
+    while (!limit_reached(limit) && has_room(lattice->part) && grow(ground, room, lattice)) {
+        lay_out_places(room, lattice->part);
         limit_spend(limit, 2 * work_of_fitting(room)); /* the strips beside, and the bend */
-        bend(grey, room, 1, &lattice.warp);
+        bend(ground->grey, room, 1, &lattice->warp);
     }
-    *out = lattice;
-    return true;
 }

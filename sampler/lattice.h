@@ -13,6 +13,7 @@ struct lattice {
     struct warp warp; /* from modules to pixels */
     struct part part; /* the modules that it has */
     double near;      /* of the clear edges of its first modules, the share that is where it should be */
+    double contrast;  /* of these edges, the mean */
 };
 
 /* Where lattices grow: a level, and what is known of the picture, `scale` pixels of which are one of the level. */
@@ -22,9 +23,12 @@ struct ground {
     double scale;
 };
 
-/* Grows a lattice around the origin of the map as far as edges lie on it and no known symbol does, or until the limit.
- * `room` is for its places. False if even the first modules don't fit, which `out` tells then. */
-bool grow_lattice(const struct ground *ground, const struct homography *to_picture, struct layout *room,
-                  struct limit *limit, struct lattice *out);
+/* Fits the first modules of a lattice, around the origin of the map. `room` is for its places. False if they don't fit,
+ * which `out` tells then. */
+bool begin_lattice(const struct ground *ground, const struct homography *to_picture, struct layout *room,
+                   struct lattice *out);
+
+/* Grows a lattice as far as edges lie on it and no known symbol does, or until the limit. */
+void grow_lattice(const struct ground *ground, struct layout *room, struct limit *limit, struct lattice *lattice);
 
 #endif

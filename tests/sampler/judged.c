@@ -112,18 +112,18 @@ static int grows(double module) {
     static struct layout room;
     struct plane picture = {.width = SIDE, .height = SIDE, .stride = SIDE, .pixels = pixels}, grey;
     struct limit limit = limit_from_now(ECC200_SAMPLE_ANY_TIME, ECC200_SAMPLE_ANY_EFFORT, 1);
-    struct known known = {.is_empty = true};
+    const struct ground ground = {&grey, &(struct known){.is_empty = true}, 1};
     struct homography to_picture = {{{module, 0, SIDE / 2}, {0, module, SIDE / 2}, {0, 0, 1}}};
     struct lattice lattice;
     for (int k = 0; k < SIDE * SIDE; k++) {
         int row = k / SIDE / MODULE, column = k % SIDE / MODULE;
         pixels[k] = (row * 7 + column * 11 + row * column) % 5 < 2 ? 20 : 230;
     }
-    int is_grown = plane_smooth(&picture, &limit, &grey) &&
-                   grow_lattice(&(struct ground){&grey, &known, 1}, &to_picture, &room, &limit, &lattice) &&
-                   lattice.part.last_x - lattice.part.first_x > 30;
+    int is_begun = plane_smooth(&picture, &limit, &grey) && begin_lattice(&ground, &to_picture, &room, &lattice);
+    if (is_begun)
+        grow_lattice(&ground, &room, &limit, &lattice);
     plane_free(&grey);
-    return is_grown;
+    return is_begun && lattice.part.last_x - lattice.part.first_x > 30;
 }
 
 int main(void) {
