@@ -106,7 +106,7 @@ static const struct {
 } LOOKS[] = {{compare, 1, 50, INT32_MAX, NULL, true, REMADE},
              {compare_doubled, 2, 30, MOST_DOUBLED, NULL, false, REMADE_FOR_NETS},
              {join_dots, JOINED, 50, MOST_JOINED, is_drawn, false, REMADE},
-             {compare_dull, 1, 50, INT32_MAX, is_gleaming, false, REMADE}};
+             {compare_dull, 1, 50, INT32_MAX, is_gleaming, false, DULL}};
 
 /* Looks at a picture in one of these ways, if it is of those. */
 static void look_again(struct search *search, const struct plane *picture, size_t k) {

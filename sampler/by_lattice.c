@@ -9,14 +9,17 @@
 enum { WORK_OF_A_WINDOW = 400000, WORK_OF_A_MODULE = 1500 };
 enum { SPOTS = 12, BORDERS = 6, LEAST_EXTENT = 8, CLEAR = 6 };
 
-/* How many places of a level are looked at, and how many lattices at each: the likeliest. */
+/* How many places of a level are looked at, how many lattices at each, and of how many places they are compared before
+ * the likeliest grow. */
 struct tries {
-    int spots, lattices;
+    int spots, lattices, together;
 };
 static const double LEAST_OF_SEED = 0.8; /* of the edges of the modules around a place, for a net to grow there */
-static const struct tries USUAL = {SPOTS, 2 * MOST_LATTICES};
+static const struct tries USUAL = {SPOTS, 2 * MOST_LATTICES, 1};
 /* Where dots are thicker than they are, which is tried last, what a symbol shows is among the first. */
-static const struct tries OF_DOTS = {2, 2};
+static const struct tries OF_DOTS = {2, 2, 1};
+/* Without gleams, what is left of these makes up lattices, too. */
+static const struct tries OF_DULL = {SPOTS, 2 * MOST_LATTICES, SPOTS};
 
 /* A level of a sight, and the sight in which what is light in it is dark, or NULL where dots are thicker. */
 struct view {
@@ -101,12 +104,12 @@ static void begin_at(struct search *search, const struct view *view, const struc
         keep_seed(&search->seeds, seed);
 }
 
-/* Searches what grows at some places. */
+/* Searches what grows at the first of some places, as many as are compared. */
 static void search_spots(struct search *search, const struct view *view, const struct plane *steep,
                          const struct spot *spots, int count, struct field *field) {
     struct begun begun = {.count = 0};
     struct ground ground = {grey_of(view), &search->known, 1 << (view->sight->level + view->level)};
-    for (int k = 0; k < count && !is_over(search); k++) {
+    for (int k = 0; k < count && k < view->tries.together && !is_over(search); k++) {
         struct point middle = point_at(spots[k].x + WINDOW_SIDE / 2, spots[k].y + WINDOW_SIDE / 2);
         if (!is_known_at(&search->known, scale_by(middle, ground.scale)))
             begin_at(search, view, steep, &ground, &spots[k], &begun);
@@ -122,7 +125,8 @@ static void search_spots(struct search *search, const struct view *view, const s
 }
 
 void search_lattices(struct search *search, const struct sight *sight, const struct sight *inverted, int level) {
-    struct view view = {sight, inverted, level, inverted != NULL ? USUAL : OF_DOTS};
+    struct view view = {sight, inverted, level,
+                        inverted == NULL ? OF_DOTS : search->is_dull ? OF_DULL : USUAL};
     struct spot spots[SPOTS];
     struct plane steep;
     struct field *field = malloc(sizeof *field);
@@ -130,8 +134,8 @@ void search_lattices(struct search *search, const struct sight *sight, const str
     if (is_made)
         blank_found(search, sight->level + level, &steep);
     int count = is_made ? find_spots(&steep, search->most_steep, search->judge.limit, spots, view.tries.spots) : 0;
-    for (int k = 0; k < count && !is_over(search); k++)
-        search_spots(search, &view, &steep, &spots[k], 1, field);
+    for (int k = 0; k < count && !is_over(search); k += view.tries.together)
+        search_spots(search, &view, &steep, &spots[k], count - k, field);
     note_lack(search, is_made && count >= 0);
     free(field);
     plane_free(&steep);

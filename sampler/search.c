@@ -279,8 +279,22 @@ static void search_dots(struct search *search, const struct sight *sight) {
     }
 }
 
+/* Makes the picture inverted. */
+static void make_inverted(struct search *search) {
+    struct sight *inverted = &search->sights[1];
+    note_lack(search, plane_invert(&search->sights[0].picture, search->judge.limit, &inverted->picture) &&
+                          make_levels(inverted, search->judge.limit));
+}
+
+/* By lattices, which show both what is dark on light and what is light on dark; and then by the darkest points of what
+ * shows a border. */
+static void search_all_woven(struct search *search) {
+    search_levels(search, &search->sights[0], search_woven);
+    search_places(search, &search->judge.gleaming_places, judge_gleaming);
+}
+
 /* What shows a symbol as it is: first by solid borders beside which it looks like one, dark on light; and then light on
- * dark, and by lattices, which show both. */
+ * dark, and by lattices. */
 static void search_clearly(struct search *search) {
     struct sight *plain = &search->sights[0], *inverted = &search->sights[1];
     search_levels(search, plain, search_lively);
@@ -288,13 +302,11 @@ static void search_clearly(struct search *search) {
     search_rows(search);
     if (is_over(search))
         return;
-    note_lack(search, plane_invert(&plain->picture, search->judge.limit, &inverted->picture) &&
-                          make_levels(inverted, search->judge.limit));
+    make_inverted(search);
     search_levels(search, inverted, search_lively);
     search_levels(search, inverted, search_joined);
     search_rows(search);
-    search_levels(search, plain, search_woven);
-    search_places(search, &search->judge.gleaming_places, judge_gleaming);
+    search_all_woven(search);
 }
 
 /* By the solid borders of a calm picture, and then by other solid borders. What is left of the limit is for smears, and
@@ -317,9 +329,14 @@ void search_picture(struct search *search, const struct plane *picture, enum loo
     search->by = look == AS_IT_IS ? WIDE : OF_REMADE, search->seeds.count = 0;
     search->by.most_contrast = is_alike ? MOST_OF_FAINT : 0;
     search->most_steep = is_alike ? STEEPEST_OF_FAINT : UINT8_MAX;
+    search->is_dull = look == DULL;
     search->bend = look == AS_IT_IS ? 0 : BEND_OF_REMADE;
     note_lack(search, make_levels(plain, search->judge.limit));
-    search_clearly(search);
+    if (look == DULL) { /* gleams cut borders into pieces */
+        make_inverted(search);
+        search_all_woven(search);
+    } else
+        search_clearly(search);
     if (look == AS_IT_IS && !is_over(search))
         search_deeply(search);
     else if (look == REMADE_FOR_NETS)

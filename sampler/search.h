@@ -42,6 +42,7 @@ struct search {
     struct surroundings by; /* what is dark is darker than these; what is clearer was seen before */
     int most_steep;         /* of what lattices are looked for in: what is steeper was seen before */
     double bend;            /* of its length: by how much a border may be bent */
+    bool is_dull;           /* whether gleams were taken from the picture */
     struct seeds seeds;     /* of the lattices that were looked for */
 };
 
@@ -74,7 +75,7 @@ void search_lattices(struct search *search, const struct sight *sight, const str
 void search_nets(struct search *search);
 
 /* What a picture is searched for: what it was made of another one for, or all that can be made out. */
-enum look { AS_IT_IS, REMADE, REMADE_FOR_NETS };
+enum look { AS_IT_IS, REMADE, REMADE_FOR_NETS, DULL };
 
 /* Searches a picture, and frees it if it is owned: for all that it shows clearly, and as it is for all that can be made
  * out as well; where it is remade for nets, by these too. `is_alike`: whether what isn't faint was seen before as it

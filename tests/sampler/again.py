@@ -81,9 +81,10 @@ class Again:
             rows = gleaming("GLEAMING", pixels, lambda x, y: 145 * ((2 * x + y) % apart < thick / pixels))
             self.all_say(f"{thick / 2} pixels, {apart} modules apart, of {pixels} pixels", rows, ["GLEAMING"])
         for count, pixels, wide, a, b, c in ((30, 4, 0.14, 3, 2.3, 5), (62, 4, 0.14, 3, 2.3, 5),
-                                             (114, 8, 0.14, 3, 2.3, 5), (62, 6, 0.16, 2.4, 2, 3)):
+                                             (114, 8, 0.14, 3, 2.3, 5), (62, 6, 0.16, 2.4, 2, 3),
+                                             (280, 5, 0.12, 2, 3, 5)):
             fold = lambda x, y: math.sin(x / a) + math.sin(y / b + math.sin(x / c))
-            message = ("GLEAMS ALONG FOLDS " * 6)[:count]
+            message = ("GLEAMS ALONG FOLDS " * 15)[:count]
             rows = gleaming(message, pixels, lambda x, y: 130 * math.exp(-(fold(x, y) / wide) ** 2))
             self.all_say(f"folds {wide} wide, {count} letters, {pixels} pixels a module", rows, [message])
 
