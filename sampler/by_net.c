@@ -7,7 +7,7 @@
 #include "net.h"
 #include "search.h"
 
-enum { BORDERS = 2, FOR_NETS = 25 };      /* percent of the usual work, in each manner */
+enum { BORDERS = 2, FOR_NETS = 50 };      /* percent of the usual work */
 static const double LEAST_OF_SCORE = 0.8; /* of the score of a border without a fault */
 
 struct grown {
@@ -36,22 +36,16 @@ static void search_net(struct search *search, const struct seed *seed, struct gr
     }
 }
 
-/* Grows nets from all seeds, in one of both manners, with work of its own. */
-static void search_seeds(struct search *search, bool is_surest, struct grown *grown) {
+/* Grows nets from all seeds, with work of their own. */
+void search_nets(struct search *search) {
+    struct grown *grown = malloc(sizeof *grown);
+    search->judge.has_no_memory |= grown == NULL;
     limit_begin_anew(search->judge.limit, FOR_NETS);
     for (int k = 0; k < search->seeds.count && search->count == 0 && !is_over(search); k++) {
         const struct seed *seed = &search->seeds.items[k];
         const struct plane *grey = &search->sights[0].levels[seed->level];
-        if (grow_net(grey, &seed->to_picture, is_surest, search->judge.limit, &grown->net))
+        if (grow_net(grey, &seed->to_picture, search->judge.limit, &grown->net))
             search_net(search, seed, grown);
     }
-}
-
-void search_nets(struct search *search) {
-    struct grown *grown = malloc(sizeof *grown);
-    search->judge.has_no_memory |= grown == NULL;
-    search_seeds(search, false, grown);
-    if (search->count == 0)
-        search_seeds(search, true, grown);
     free(grown);
 }

@@ -7,29 +7,21 @@
 #include "field.h"
 #include "levels.h"
 
-enum { AROUND = 2, MOST_WEAK = 3, SETTLING = 3, POINTS = 4, QUARTERS = 4 };
+enum { AROUND = 3, MOST_WEAK = 3, SETTLING = 3, POINTS = 4, QUARTERS = 4 };
 enum { SURE_ENOUGH = 9 }; /* not to be looked at again while it waits */
-enum { LEAST_AROUND = 4, LEAST_TO_FILL = 3, FILLINGS = 4 }; /* of the eight knots around one; rounds */
+enum { OF_THE_RIM = 5, LEAST_AROUND = 4, LEAST_TO_FILL = 3, FILLINGS = 4 }; /* of the eight knots around one; rounds */
 /* An edge is looked for up to REACH ticks beside its place, by the difference HALF ticks before and behind it. */
 enum { REACH = 5, HALF = 3, SAMPLES = 2 * (REACH + HALF) + 1 };
 static const double TICK = 0.1, BESIDE = 0.2; /* modules */
 static const double LEAST_CONTRAST = 4;
+static const double LEAST_SHARE = 0.5;           /* of the contrast of the first knots' edges, for one to be clear */
+static const double NEAR = 0.2;                  /* modules: of an edge to its place */
 static const double STIFF = 0.5;                 /* of a knot, in edges */
-static const double CURVED = 4;                  /* how much a net is held back from curving around a knot, in knots */
+static const double CURVED = 1;                  /* how much a net is held back from curving around a knot, in knots */
 static const double LEAST_NEAR = 0.55;           /* of the clear edges of the first knots */
 static const double FIRST = -0.27, APART = 0.18; /* modules: where the points of a module are */
 
-enum { PLANE = 3, MOST_TERMS = 6 };
-
-/* How a net grows: how far the first knots reach; by how many terms those around a knot tell its place; the work of a
- * knot; of the contrast of the first knots, how much an edge has at least; and how near to its place one is, in
- * modules. */
-struct manner {
-    int first_reach, terms, work_of_a_knot;
-    double least_share, near;
-};
-
-static const struct manner ALL_AROUND = {3, PLANE, 1800, 0.35, 0.15}, WHERE_SUREST = {2, MOST_TERMS, 2200, 0.5, 0.2};
+enum { PLANE = 3, TERMS_OF_PLACE = 6, FIRST_REACH = 2, WORK_OF_A_KNOT = 2200 };
 
 /* ---- Knots */
 
@@ -46,44 +38,40 @@ static bool is_in_reach(int x, int y) {
     return x >= -NET_REACH && y >= -NET_REACH && x <= NET_REACH && y <= NET_REACH;
 }
 
-/* The equations of least squares for where a knot lies, by so many terms of its place. */
+/* The equations of least squares for where a knot lies. */
 struct placing {
-    double matrix[MOST_TERMS * MOST_TERMS], right[MOST_TERMS], down[MOST_TERMS];
+    double matrix[TERMS_OF_PLACE * TERMS_OF_PLACE], right[TERMS_OF_PLACE], down[TERMS_OF_PLACE];
 };
 
 /* Adds the knots around one. The matrix is symmetric, and whole powers of two make both halves exactly alike. */
-static inline void add_around(const struct net *net, int x, int y, int count, struct placing *out) {
+static void add_around(const struct net *net, int x, int y, struct placing *out) {
     for (int down = -AROUND; down <= AROUND; down++)
         for (int right = -AROUND; right <= AROUND; right++) {
             int knot = knot_at(x + right, y + down);
             if (!is_in_reach(x + right, y + down) || net->is_weak[knot] == 0)
                 continue;
-            double terms[MOST_TERMS] = {1, right, down, right * right, right * down, down * down},
+            double terms[TERMS_OF_PLACE] = {1, right, down, right * right, right * down, down * down},
                    weight = 1.0 / net->is_weak[knot];
             struct point at = net->at[knot];
-            for (int k = 0; k < count; k++) {
+            for (int k = 0; k < TERMS_OF_PLACE; k++) {
                 double term = weight * terms[k];
                 out->right[k] += term * at.x, out->down[k] += term * at.y;
                 for (int j = 0; j <= k; j++)
-                    out->matrix[count * k + j] += term * terms[j];
+                    out->matrix[TERMS_OF_PLACE * k + j] += term * terms[j];
             }
         }
-    for (int k = 0; k < count; k++)
-        for (int j = k + 1; j < count; j++)
-            out->matrix[count * k + j] = out->matrix[count * j + k];
+    for (int k = 0; k < TERMS_OF_PLACE; k++)
+        for (int j = k + 1; j < TERMS_OF_PLACE; j++)
+            out->matrix[TERMS_OF_PLACE * k + j] = out->matrix[TERMS_OF_PLACE * j + k];
 }
 
-/* By the plane through the knots around it, or a surface that is held back from curving. False if these don't tell. */
+/* By the surface through the knots around it, which is held back from curving. False if these don't tell. */
 static bool place_by_others(const struct net *net, int x, int y, struct place *out) {
     struct placing of = {0};
-    int count = net->manner->terms;
-    if (count == PLANE)
-        add_around(net, x, y, PLANE, &of);
-    else
-        add_around(net, x, y, MOST_TERMS, &of);
-    for (int k = PLANE; k < count; k++)
-        of.matrix[count * k + k] += CURVED;
-    bool is_told = solve_both(of.matrix, of.right, of.down, count);
+    add_around(net, x, y, &of);
+    for (int k = PLANE; k < TERMS_OF_PLACE; k++)
+        of.matrix[TERMS_OF_PLACE * k + k] += CURVED;
+    bool is_told = solve_both(of.matrix, of.right, of.down, TERMS_OF_PLACE);
     *out = (struct place){point_at(of.right[0], of.down[0]), point_at(of.right[1], of.down[1]),
                           point_at(of.right[2], of.down[2])};
     return is_told;
@@ -156,13 +144,13 @@ static bool look_at(const struct net *net, int x, int y, struct shown *out) {
     double offsets[2] = {0}, counts[2] = {0};
     if (!place_by_others(net, x, y, &place))
         return false;
-    limit_spend(net->limit, net->manner->work_of_a_knot);
+    limit_spend(net->limit, WORK_OF_A_KNOT);
     look_at_edges(net, &place, edges);
     *out = (struct shown){0};
     for (int k = 0; k < EDGES; k++) {
         if (edges[k].contrast < net->least || edges[k].contrast <= 0)
             continue;
-        bool is_near = fabs(edges[k].offset) < net->manner->near;
+        bool is_near = fabs(edges[k].offset) < NEAR;
         out->near += is_near, out->far += !is_near;
         offsets[k / 2] += edges[k].offset, counts[k / 2]++;
     }
@@ -216,9 +204,8 @@ static void settle_all(struct net *net) {
 /* ---- Growing */
 
 static void begin(const struct homography *to_picture, struct net *net) {
-    int reach = net->manner->first_reach;
-    for (int y = -reach; y <= reach; y++)
-        for (int x = -reach; x <= reach; x++)
+    for (int y = -FIRST_REACH; y <= FIRST_REACH; y++)
+        for (int x = -FIRST_REACH; x <= FIRST_REACH; x++)
             put(net, knot_at(x, y), map_point(to_picture, x, y), 1);
 }
 
@@ -265,15 +252,16 @@ static void for_each_beside(struct net *net, int knot, void (*act)(struct net *,
     }
 }
 
-static void grow_all_around(struct net *net) {
-    for (int k = 0; k < net->count && (k % 16 > 0 || !limit_reached(net->limit)); k++) {
-        settle(net, net->knots[k] % NET_SIDE - NET_REACH, net->knots[k] / NET_SIDE - NET_REACH);
-        for_each_beside(net, net->knots[k], settle);
+/* Looks again at a knot and at those around it that have few others around them yet: what came since tells more. */
+static void settle_rim(struct net *net, int knot) {
+    for (int k = 0; k < 9; k++) {
+        int x = knot % NET_SIDE - NET_REACH + k % 3 - 1, y = knot / NET_SIDE - NET_REACH + k / 3 - 1;
+        if (is_in_reach(x, y) && net->is_weak[knot_at(x, y)] > 0 && known_around(net, x, y) < OF_THE_RIM)
+            settle(net, x, y);
     }
-    settle_all(net);
 }
 
-static void grow_where_surest(struct net *net) {
+static void grow(struct net *net) {
     int first = net->count;
     memset(net->sure, 0, sizeof net->sure);
     memset(net->last, 0, sizeof net->last);
@@ -283,6 +271,7 @@ static void grow_where_surest(struct net *net) {
     for (const struct waiting *next; !limit_reached(net->limit) && (next = take_surest(net)) != NULL;)
         if (net->is_weak[next->knot] == 0) {
             put(net, next->knot, next->at, next->is_weak);
+            settle_rim(net, next->knot);
             for_each_beside(net, next->knot, let_wait);
         }
 }
@@ -291,7 +280,7 @@ static void grow_where_surest(struct net *net) {
 static double mean_of_edges(const struct net *net, double *near) {
     struct edge edges[EDGES];
     struct place place;
-    double total = 0, clear = 0, at_place = 0, near_by = net->manner->near;
+    double total = 0, clear = 0, at_place = 0;
     for (int k = 0; k < net->count; k++) {
         if (!place_by_others(net, net->knots[k] % NET_SIDE - NET_REACH, net->knots[k] / NET_SIDE - NET_REACH, &place))
             continue;
@@ -300,28 +289,26 @@ static double mean_of_edges(const struct net *net, double *near) {
         for (int j = 0; j < EDGES; j++) {
             total += edges[j].contrast;
             clear += edges[j].contrast >= net->least && edges[j].contrast > 0;
-            at_place += edges[j].contrast >= net->least && edges[j].contrast > 0 && fabs(edges[j].offset) < near_by;
+            at_place += edges[j].contrast >= net->least && edges[j].contrast > 0 && fabs(edges[j].offset) < NEAR;
         }
     }
     *near = clear > 0 ? at_place / clear : 0;
-    limit_spend(net->limit, (int64_t)net->manner->work_of_a_knot * net->count);
+    limit_spend(net->limit, (int64_t)WORK_OF_A_KNOT * net->count);
     return total / (EDGES * net->count);
 }
 
-bool grow_net(const struct plane *grey, const struct homography *to_picture, bool is_surest, struct limit *limit,
-              struct net *out) {
+bool grow_net(const struct plane *grey, const struct homography *to_picture, struct limit *limit, struct net *out) {
     double near;
     memset(out->is_weak, 0, sizeof out->is_weak);
-    out->manner = is_surest ? &WHERE_SUREST : &ALL_AROUND;
     out->grey = grey, out->limit = limit, out->least = 0, out->count = 0;
     begin(to_picture, out);
-    out->least = fmax(out->manner->least_share * mean_of_edges(out, &near), LEAST_CONTRAST);
+    out->least = fmax(LEAST_SHARE * mean_of_edges(out, &near), LEAST_CONTRAST);
     for (int round = 0; round < SETTLING; round++)
         settle_all(out);
     mean_of_edges(out, &near);
     if (near < LEAST_NEAR)
         return false;
-    (is_surest ? grow_where_surest : grow_all_around)(out);
+    grow(out);
     settle_all(out);
     return true;
 }

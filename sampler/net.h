@@ -17,7 +17,6 @@ struct waiting {
 };
 
 struct net {
-    const struct manner *manner; /* how it grows */
     const struct plane *grey;
     struct limit *limit;
     double least;                       /* brightness: how clear an edge is at least */
@@ -30,11 +29,9 @@ struct net {
     int waiting, last[MOST_SURE + 1];   /* how many these are, and of each sureness the last that waits */
 };
 
-/* Grows a net from the modules around the origin of a map from modules to pixels, until the limit: all around, as far
- * as edges show it, and a little farther; or where it is surest, as far as edges or many knots around the next one show
- * it. False if even the first modules don't fit. */
-bool grow_net(const struct plane *grey, const struct homography *to_picture, bool is_surest, struct limit *limit,
-              struct net *out);
+/* Grows a net from the modules around the origin of a map from modules to pixels, until the limit: where it is surest,
+ * as far as edges or many knots around the next one show it. False if even the first modules don't fit. */
+bool grow_net(const struct plane *grey, const struct homography *to_picture, struct limit *limit, struct net *out);
 
 /* Takes at most MOST_FIELD modules each way of a net, around its middle: what is dark, and the first knot. */
 void take_field(const struct net *net, struct field *out, int *first_x, int *first_y);

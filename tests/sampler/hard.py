@@ -158,9 +158,9 @@ class Hard:
             self.says(f"side {side}", waved(grid_of(message_of(count)), scale, 0.4, 0.3, at, 212), message_of(count))
 
     def test_crumpled_steep(self):
-        """In steep waves, which nets follow all around or where they are surest; of small modules, where doubled."""
+        """In steep waves, which nets follow as far as many knots around tell; of small modules, where doubled."""
         for at, right, down, scale in ((8, 0.9, 0, 6), (8, 0.75, 0.65, 6), (12, 0.9, 0, 6), (12, 0.75, 0.65, 6),
-                                       (12, 0.75, 0.65, 4)):
+                                       (12, 0.75, 0.65, 4), (6, 0.9, 0.7, 6), (6, 1, 0.8, 4), (8, 1.1, 0.9, 6)):
             side, count, _ = sizes()[at]
             rows = waved(grid_of(message_of(count)), scale, right, down, at)
             self.says(f"side {side}, {right} and {down}, {scale} pixels", rows, message_of(count))
