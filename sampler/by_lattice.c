@@ -14,7 +14,7 @@ enum { SPOTS = 12, BORDERS = 6, LEAST_EXTENT = 8, CLEAR = 6 };
 struct tries {
     int spots, lattices, together;
 };
-static const double LEAST_OF_SEED = 0.8; /* of the edges of the modules around a place, for a net to grow there */
+static const double LEAST_OF_SEED = 0.7; /* of the edges of the modules around a place, for a net to grow there */
 static const struct tries USUAL = {SPOTS, 2 * MOST_LATTICES, 1};
 /* Where dots are thicker than they are, which is tried last, what a symbol shows is among the first. */
 static const struct tries OF_DOTS = {2, 2, 1};

@@ -8,7 +8,7 @@
 #include "search.h"
 
 enum { BORDERS = 2, FOR_NETS = 50 };      /* percent of the usual work */
-static const double LEAST_OF_SCORE = 0.8; /* of the score of a border without a fault */
+static const double LEAST_OF_SCORE = 0.65; /* of the score of a border without a fault */
 
 struct grown {
     struct net net;

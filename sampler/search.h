@@ -24,7 +24,7 @@ struct seed {
     double near;
 };
 
-enum { MOST_SEEDS = 3 };
+enum { MOST_SEEDS = 6 };
 struct seeds {
     struct seed items[MOST_SEEDS]; /* the likeliest, one at a place */
     int count;
