@@ -15,8 +15,8 @@ damage, which damage.py makes. A line is a mark, with tabs between:
   `given`, what the encoder was given, in UTF-8 or spelled, where that isn't the items of what it says; `found`, the
   damage: how many border modules are wrong, and of each block how many codewords are corrected, and how many erased.
 
-`texts.txt` has texts as labels have them, a line each: a script, a tab and a text. `elements.txt` has GS1 element
-strings, each with its items, spelled, or with \\no and a part of what the Python package says of its fault.
+`texts.txt` has texts as labels have them: a line for each script, its name and then its texts. `elements.txt` has GS1
+element strings, each with its items, spelled, or with \\no and a part of what the Python package says of its fault.
 `charsets.txt` has contents as the marks have them, each with the charsets that it is in, and its text, if it is one,
 with control characters spelled. `corpus.mjs` reads the marks and the texts too."""
 import functools
@@ -141,7 +141,7 @@ def rows(name):
 
 
 def texts():
-    return rows("texts")
+    return [(script, text) for script, *some in rows("texts") for text in some]
 
 
 def grids(some):

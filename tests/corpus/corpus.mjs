@@ -16,4 +16,4 @@ export const marksOf = (file) => linesOf(file).map((line) => {
 });
 
 // Texts as labels have them.
-export const texts = () => linesOf("texts").map((line) => line.split("\t")[1]);
+export const texts = () => linesOf("texts").flatMap((line) => line.split("\t").slice(1));
