@@ -7,8 +7,8 @@ from tests import corpus
 from tests.library.cases import (LARGEST, MOST_DATA, SMALLEST, TEN, TWELVE, USUAL, WIDE, Symbol, doubt_of, grid_of,
                                  held_by, hurt, inspect, inspection, no, normal, read, reading, symbol,
                                  with_bad_border, words_of, write, write_bytes)
-from tests.library.contents import (Content, Refusal, dealt_anew, designators_of, head_words, content_words, said_by,
-                                   symbol_of)
+from tests.library.contents import (Content, Refusal, content_said, content_words, dealt_anew, designators_of,
+                                    head_words, said_by, symbol_of)
 from tests.library.model import (ANY, EXTENDED, FNC1, ONE, RECTANGLE, SIZE_OF, SIZES, SQUARE, base_256_words, codewords,
                                  modules_of, padded, randomised, triple)
 
@@ -36,13 +36,17 @@ WORKED = [
     ((230, 87, 199, 254, 241, 27, 66), b"AA", [(26, 1)], None, 4), ((50, 51, 232), [49, 50, FNC1], [], None, 1),
     ((142, 232), [49, 50, FNC1], [], None, 3), ((230, 10, 121), [FNC1], [], None, 1), ((232,), [FNC1], [], None, 2),
     ((236, 232, 66), [*MACRO_5, FNC1, 65, *TRAILER], [], None, 3), ((129, 232), b"", [], None, 1),
-    ((234, 232, 66, 241, 27), [FNC1, 65], [(26, 2)], PROGRAMMING, 5),
+    ((234, 232, 66, 241, 27), [FNC1, 65], [(26, 2)], PROGRAMMING, 5), ((50, 241, 4, 51), b"12", [(3, 1)], None, 4),
+    ((241, 27, 66, 67, 68), b"ABC", [(26, 0)], None, 4), ((233, 28, 1, 2, 66), b"A", [], (2, 5, 1, 2), 1),
+    ((241, 27, 66, 129, 70), b"A", [(26, 0)], None, 4), ((241, 27, 231, 88, 45), b"A", [(26, 0)], None, 4),
+    ((234, 239, 254, 129, 70), b"", [], PROGRAMMING, 1), ((234, 230, 232), [FNC1], [], PROGRAMMING, 3),
+    ((240, 232, 66), [FNC1, 65], [], None, 3),
 ]
 # Those that say nothing in the wide extent, with code, value and place.
 REFUSED = [
     *((data, 20, 0, 1) for data in ((241, 207, 63, 130), (241, 0, 66), (241, 128, 0), (241, 128, 255, 66),
                                     (241, 208, 1, 1), (241, 192, 1, 0, 66), (241, 192, 0, 1, 66), (241, 255, 1, 1),
-                                    (241, 192, 255, 1, 66))),
+                                    (241, 192, 255, 1, 66), (241, 208, 1, 1, 66))),
     *((data, 21, 0, 1) for data in ((233, 0, 1, 1, 66), (233, 32, 1, 1, 66), (233, 15, 0, 1, 66), (233, 15, 1, 255),
                                     (233, 15, 255, 1), (233, 15, 1, 0), (233, 16, 1, 1), (233, 255, 0, 0))),
     ((66, 233, 15, 1, 1), 8, 233, 2), ((66, 234), 8, 234, 2), ((233, 15, 1, 1, 236, 66), 8, 236, 5),
@@ -309,9 +313,7 @@ def dealt():
 def printed(*files):
     """The marks of these files of the corpus: of each its name, rows and columns, what it says, and its modules."""
     for mark in (mark for file in files for mark in corpus.marks(file)):
-        items, marks, head = mark.content
-        content = Content(items, tuple((number, place) for place, number in marks), head)
-        yield mark.name, (mark.rows, mark.columns), content, list(mark.modules)
+        yield mark.name, (mark.rows, mark.columns), content_said(mark.said), list(mark.modules)
 
 
 def of_other_encoders():

@@ -4,6 +4,7 @@ and the rules of docs/DECISIONS.md, and not from the library."""
 import functools
 from collections import namedtuple
 
+from tests import corpus
 from tests.library.model import (FNC1, LATCH_BASE_256, PAD, SIZES, SQUARE, UPPER_SHIFT, ascii_words, base_256_words,
                                  codewords, modules_of, padded)
 
@@ -282,6 +283,12 @@ def number_of(words):
 def content_of(said):
     """A content; items alone are one without head and marks."""
     return said if isinstance(said, Content) else Content(tuple(said))
+
+
+def content_said(said):
+    """The content that the corpus spells so."""
+    items, marks, head = corpus.content_of(said)
+    return Content(items, tuple((number, place) for place, number in marks), head)
 
 
 def is_content(content):

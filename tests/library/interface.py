@@ -2,7 +2,7 @@
 requests that its callers are asked, each with the answer that is wanted."""
 import functools
 
-from tests.library import content_cases, small_cases
+from tests.library import content_cases, small_cases, vectors
 from tests.library.cases import (MOST_CODEWORDS, MOST_DATA, MOST_MODULES, SMALLEST, choices, conveniences,
                                  faults, limits, messages, modules, numbers, sizes, wide, words)
 from tests.library.contents import USUAL, WIDE
@@ -13,9 +13,7 @@ CONSTANTS = {
     "MOST_MARKS": MOST_DATA // 2, "MOST_CODEWORDS": MOST_CODEWORDS, "MOST_BLOCKS": max(size.blocks for size in SIZES),
     "SIZE_COUNT": len(SIZES), "FNC1": 256, "BEYOND": 255, "STACK": 49152,
 }
-EXTENTS = {"WIDE": WIDE, "USUAL": USUAL}
-PROFILES = {"ASCII": 0, "SHORTER": 1}
-FORMS = {"SMALLEST": SMALLEST}
+EXTENTS, PROFILES, FORMS = {"WIDE": WIDE, "USUAL": USUAL}, {"ASCII": 0, "SHORTER": 1}, {"SMALLEST": SMALLEST}
 SHAPES = {"SQUARE": SQUARE, "RECTANGLE": RECTANGLE, "EXTENDED": EXTENDED, "ANY": ANY, "ONE": ONE}
 CODES = {
     "OK": 0, "SHAPE": 3, "SIZE": 4, "BORDER": 5, "BLOCK": 6, "RESERVED": 7, "LEFT_OUT": 8, "UPPER_SHIFT": 9,
@@ -39,8 +37,7 @@ def laid(*members, whole=1):
 
 LAYOUT = {
     "fault": laid(("code", 2), ("value", 2), ("place", 2)),
-    "head": laid(("kind", 2), ("part", 2), ("parts", 2), ("file", 2)),
-    "mark": laid(("number", 4), ("place", 4)),
+    "head": laid(("kind", 2), ("part", 2), ("parts", 2), ("file", 2)), "mark": laid(("number", 4), ("place", 4)),
     "scan": laid(("rows", 2), ("columns", 2), ("limit", 2), ("border_limit", 2), ("extent", 2)),
     "reading": laid(("fault", 6), ("rows", 2), ("columns", 2), ("border_faults", 2), ("block_count", 2),
                     ("item_count", 2), ("mark_count", 2), ("identifier", 2), ("dealing", 2), ("head", 8),
@@ -97,7 +94,7 @@ class Interface:
         for requests in (faults, wide, messages, choices, sizes, modules, limits):
             yield from requests()
         yield from words(set(CODES.values()))
-        for requests in (*content_cases.ALL, *small_cases.ALL):
+        for requests in (*content_cases.ALL, *small_cases.ALL, *vectors.ALL):
             yield from requests()
         yield "compatible", "1"
 

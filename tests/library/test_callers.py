@@ -4,6 +4,7 @@ import sys
 from tests import corpus
 from tests.library import content_cases, contents, small_cases
 from tests.library.cases import Symbol, check_codewords_are_known, held_by
+from tests.library.model import modules_of
 from tests.support import commands, places
 from tests.support.case import Case
 
@@ -18,12 +19,13 @@ class Alike(Case):
     def test_the_check_codewords_of_the_model_are_those_of_the_standards_example(self):
         self.assertTrue(check_codewords_are_known())
 
-    def test_the_model_finds_the_codewords_of_another_encoder(self):
+    def test_the_model_finds_the_codewords_of_another_encoder_and_lays_them_so(self):
         named = {(mark.rows, mark.columns) for mark in corpus.marks("sizes")}
         self.row("sizes beyond the squares to 104", len({it for it in named if it[0] != it[1] or it[0] > 104}), 27)
         for mark in corpus.marks("sizes"):
-            held, data = held_by(Symbol(mark.modules, (mark.rows, mark.columns))), bytes.fromhex(mark.more["data"])
-            self.row(mark.name, bytes(held[:len(data)]), data)
+            grid, data = Symbol(mark.modules, (mark.rows, mark.columns)), bytes.fromhex(mark.more["data"])
+            held = held_by(grid)
+            self.row(mark.name, (bytes(held[:len(data)]), modules_of(grid.size, held)), (data, list(grid)))
 
     def test_the_model_reads_contents_as_they_were_worked_out_by_hand(self):
         for data, items, marks, head, identifier in content_cases.WORKED:

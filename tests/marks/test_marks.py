@@ -8,6 +8,7 @@ from tests import corpus
 from tests.library.contents import USUAL, WIDE, Content, Refusal, said_by, symbol_of
 from tests.library.library import module
 from tests.library.model import DIGITS, SIZE_OF, SIZES, codewords, modules_of
+from tests.library.vectors import laid, shown_dealings
 from tests.support import commands, needs, places
 from tests.support.case import Case
 
@@ -167,3 +168,10 @@ class Marks(Case):
 class Lists(Case):
     def test_codewords_at_random(self):
         self.all_sound(lists(LISTS))
+
+    def test_an_inspection_shows_the_dealing(self):
+        for words, dealing, mended, corrected in shown_dealings():
+            modules = bytes(laid(words))
+            got = module().inspect([modules[at:at + 144] for at in range(0, 144 * 144, 144)])
+            self.row(f"dealing {dealing}, {corrected}", (got.dealing, [*got.held], [*got.mended], got.corrected),
+                     (dealing, words, mended, corrected))

@@ -92,10 +92,8 @@ def nameless():
     return [value(node, "role") for node in nodes if value(node, "role") in roles and not value(node, "name")]
 
 
-SENTENCE = (
-    "This browser can’t run the page, which needs WebAssembly with SIMD. Chrome, Edge and Firefox have had that since "
-    "2021, Safari since 2023."
-)
+SENTENCE = ("This browser can’t run the page, which needs WebAssembly with SIMD. Chrome, Edge and Firefox have had "
+            "that since 2021, Safari since 2023.")
 OTHERS = "main > .bench, main > details, .tabs"
 LACKS = {"SIMD": "WebAssembly.validate = () => false", "WebAssembly": "delete globalThis.WebAssembly"}
 

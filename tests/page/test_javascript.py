@@ -19,13 +19,12 @@ LINES = [
     ("read({ data: new Uint8Array(4), width: 2, height: 2 }).unread.map(({ fault }) => fault?.code);", True),
     ("const text: string | null = readGrid(write([FNC1, 65])).text;", True),
     ("try { normal(write('a'), { form: 'ascii' }); } catch (why) { if (why instanceof Refused) why.code + 1; }", True),
-    ("const one: number = sizes()[0].rows;", True),
+    ("const one: number = sizes()[0].rows;", True), ("readGrid(write('a')).elements.length;", False),
     ("const grid = write('(10)A', { gs1: true }), [{ identifier, value }] = readGrid(grid).elements ?? [];"
      " const element: string = identifier + value; void element;", True),
     ("const { quality } = read(new ImageData(3, 4), { quality: true }).symbols[0];"
      " const grade: 'A' | 'B' | 'C' | 'D' | 'F' | undefined = quality?.grades.contrast; void grade;", True),
     ("read(new ImageData(3, 4), { quality: 1 });", False), ("write('(10)A', { gs1: 1 });", False),
-    ("readGrid(write('a')).elements.length;", False),
     ("const marks = [{ place: 0, number: 26 }];"
      " const grid = write({ items: [65], marks, head: 'programming' }, { form: 'smallest' });"
      " const { charset, head, symbology } = readGrid(grid, { limit: 'auto' });"
