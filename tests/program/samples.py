@@ -21,16 +21,8 @@ TWO = GRID_123456 + b"\n\n" + GRID_A
 TABLE = b"".join(b"%d %d %d %d %d %d %d %d\n" % (it.rows, it.down * it.across, it.region_rows,
                                                  it.mapping_rows, it.data, it.check, it.blocks, it.limit)
                  for it in SIZES if it.rows == it.columns <= 104)
-LARGEST, *_, MOST_DATA, _, _, _ = map(int, TABLE.splitlines()[-1].split())
 
 
 def ran(words, given=b"", *, env=None, **streams):
     """Gives status, output and line of a run of the program; output None where it went elsewhere."""
     return commands.run([PROGRAM, *words], given, env=env, **streams)
-
-
-def side_of(grid):
-    """Gives the side of an answer that is one grid with the empty line after it; 0 if it is anything else."""
-    rows = grid.split(b"\n")
-    side = len(rows) - 2
-    return side if side > 0 and rows[side:] == [b"", b""] and all(len(row) == side for row in rows[:side]) else 0
