@@ -1,5 +1,6 @@
 //! Command lines and their tasks, and how the program ends.
 
+use crate::claims::holds;
 use dm_command::{CallFault, call_ending, ending, task_of};
 use dm_text::{Profile, RunFault, Tally, Task};
 use std::alloc::Global;
@@ -111,14 +112,14 @@ fn comes_to<'a>(alloc: Global, words: &'a [&'a str], task: Result<Task, CallFaul
 #[test]
 fn each_line_of_words_names_its_task(rt: HostRuntime) {
     for (words, task) in &TASKS {
-        assert!(rt; comes_to(rt.alloc(), words, Ok(*task)));
+        holds(&rt, comes_to(rt.alloc(), words, Ok(*task)));
     }
 }
 
 #[test]
 fn other_words_are_refused(rt: HostRuntime) {
     for words in &REFUSED {
-        assert!(rt; comes_to(rt.alloc(), words, Err(CallFault::Usage)));
+        holds(&rt, comes_to(rt.alloc(), words, Err(CallFault::Usage)));
     }
 }
 
@@ -174,18 +175,18 @@ static CALL_FAULTS: [(CallFault, u8, &str); 2] = [
 #[test]
 fn runs_end_with_status_and_line(rt: HostRuntime) {
     for (answered, refused, status) in &TALLIES {
-        assert!(rt; tally_ends(*answered, *refused, *status));
+        holds(&rt, tally_ends(*answered, *refused, *status));
     }
     for (fault, line) in &RUN_FAULTS {
-        assert!(rt; ends(Err(*fault), 3, line));
-        assert!(rt; is_shown(rt.alloc(), fault, line));
+        holds(&rt, ends(Err(*fault), 3, line));
+        holds(&rt, is_shown(rt.alloc(), fault, line));
     }
 }
 
 #[test]
 fn calls_end_with_status_and_line(rt: HostRuntime) {
     for (fault, status, line) in &CALL_FAULTS {
-        assert!(rt; call_ends(*fault, *status, line));
-        assert!(rt; is_shown(rt.alloc(), fault, line));
+        holds(&rt, call_ends(*fault, *status, line));
+        holds(&rt, is_shown(rt.alloc(), fault, line));
     }
 }

@@ -2,21 +2,16 @@
 
 use crate::claims::holds;
 use crate::messages::{
-    Codewords, MARKED, add, add_bytes, add_many, add_word, are_all, are_bytes, has_bytes,
-    has_items, of_items, of_many, randomised, segment,
+    Codewords, add_word, are_all, are_bytes, has_bytes, has_items, of_items, of_many,
 };
 use arrayvec::ArrayVec;
-use dm_layout::Size;
 use dm_words::*;
 
 mod ascii;
 mod contents;
 mod hostile;
 mod lines;
-mod places;
 mod shorter;
-mod smallest;
-mod smallest_contents;
 mod wide;
 
 /// What the codewords spell, and the fault of no codeword where there are too many of them.
@@ -131,23 +126,6 @@ fn reads_messages(rt: HostRuntime) {
     holds(&rt, lines::are_spelled(Extent::Usual, BASE_256));
 }
 
-/// Data codewords and the items that they spell.
-static SPELLED_WITH_FNC1: [(&[u8], &[Item]); 3] = [
-    (&[230, 10, 135], &[Item::Fnc1, Item::Byte(b'A')]),
-    (&[239, 10, 124], &[Item::Fnc1, Item::Byte(b' ')]),
-    (
-        &[49, 232, 50],
-        &[Item::Byte(b'0'), Item::Fnc1, Item::Byte(b'1')],
-    ),
-];
-
-#[test]
-fn reads_fnc1(rt: HostRuntime) {
-    for (words, items) in &SPELLED_WITH_FNC1 {
-        holds(&rt, spells(words, items));
-    }
-}
-
 /// Codewords that are reserved or left out, and the fault with which they are refused.
 static NO_CHARACTERS: [(&[u8], WordFault); 9] = [
     (&[66, 0], WordFault::Reserved(2)),
@@ -238,85 +216,4 @@ fn refuses_reserved_codewords(rt: HostRuntime) {
     for codeword in 242..=255u8 {
         holds(&rt, is_refused(&[codeword], WordFault::Reserved(1)));
     }
-}
-
-/// The codewords with pads up to this size, where there is one that has room for them.
-fn with_pads(words: &[u8], size: Option<Size>) -> Option<ArrayVec<u8, MOST_GRID_DATA>> {
-    match size {
-        Some(size) if words.len() <= usize::from(size.data_count()) => Some(padded(words, size)),
-        _ => None,
-    }
-}
-
-/// The codewords as a list.
-fn list_of(words: &[u8]) -> ArrayVec<u8, MOST_GRID_DATA> {
-    let mut list = ArrayVec::new();
-    let _room = list.try_extend_from_slice(words);
-    list
-}
-
-/// Whether these are the codewords.
-fn are_words(outcome: &Option<ArrayVec<u8, MOST_GRID_DATA>>, expected: &[u8]) -> bool {
-    match outcome {
-        Some(words) => words.as_slice() == expected,
-        None => false,
-    }
-}
-
-#[test]
-fn a_segment_may_fill_the_symbol(rt: HostRuntime) {
-    let words = segment(&[231, randomised(202, 2)], 255, 204);
-    holds(&rt, spells_bytes(&words, &[255; 202]));
-}
-
-/// A segment of 250 bytes 0, whose length takes two codewords, the last of which is this one, with pads up to the size
-/// of side 64, and no codewords where it has no such size.
-fn padded_segment(last: u8) -> ArrayVec<u8, MOST_GRID_DATA> {
-    match with_pads(&segment(&[231, 38, last], 0, 253), Size::of_side(64)) {
-        Some(words) => words,
-        None => ArrayVec::new(),
-    }
-}
-
-/// Whether the codewords are such a segment with pads, and spell 250 bytes 0.
-fn is_read_before_pads(words: &[u8]) -> bool {
-    words.len() == 280 && words[3] == 87 && words[253] == 129 && spells_bytes(words, &[0; 250])
-}
-
-/// A segment whose length takes two codewords, with pads behind it.
-#[test]
-fn a_length_of_two_codewords(rt: HostRuntime) {
-    holds(&rt, is_read_before_pads(&padded_segment(193)));
-    holds(&rt, is_refused(&padded_segment(187), WordFault::Length(1)));
-}
-
-/// A segment of 813 bytes, each of which is the low byte of its place; its length codewords are these.
-fn long_segment(first: u8, second: u8) -> [u8; 816] {
-    let mut words = [231; 816];
-    for place in 4..817u16 {
-        words[place as usize - 1] = randomised((place % 256) as u8, place);
-    }
-    words[1] = first;
-    words[2] = second;
-    words
-}
-
-/// The symbol of side 104 as one segment.
-#[test]
-fn a_segment_of_side_104(rt: HostRuntime) {
-    let mut bytes = [0; 813];
-    for index in 0..813 {
-        bytes[index] = ((index + 4) % 256) as u8;
-    }
-    holds(&rt, spells_bytes(&long_segment(40, 0), &bytes));
-}
-
-/// Lengths that pass the end of the symbol of side 104.
-#[test]
-fn refuses_segments_past_the_end(rt: HostRuntime) {
-    holds(&rt, is_refused(&long_segment(40, 1), WordFault::Length(1)));
-    holds(
-        &rt,
-        is_refused(&long_segment(41, 193), WordFault::Length(1)),
-    );
 }

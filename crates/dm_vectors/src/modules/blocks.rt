@@ -2,7 +2,7 @@
 
 use crate::claims::holds;
 use crate::modules::words_of;
-use dm_layout::symbols::{MOST_CODEWORDS, SymbolSize, SymbolWords, block, put_block};
+use dm_layout::symbols::{MOST_CODEWORDS, SymbolSize, SymbolWords, block};
 
 /// How many data codewords a block has, and how many codewords; 0 where there is no such block.
 fn lengths_of(size: SymbolSize, b: usize) -> (u16, u16) {
@@ -71,31 +71,5 @@ fn blocks_take_the_places_that_leave_their_number(rt: HostRuntime) {
     // 2170, 2177 and 2169 leave 162, 169 and 161 when divided by 251.
     holds(&rt, ends_of(&words, 0) == (0, 10, 162, 218));
     holds(&rt, ends_of(&words, 7) == (7, 17, 169, 218));
-    holds(&rt, ends_of(&words, 9) == (9, 19, 161, 217));
-}
-
-/// Puts zeros into a block, where there is such a block.
-fn clear_block(words: &mut SymbolWords, b: usize) {
-    let size = words.size();
-    if b < size.blocks() as usize {
-        let count = usize::from(size.data_count() + size.check_count());
-        put_block(
-            size,
-            &mut words.resize(size)[..count],
-            b,
-            &[0; MOST_CODEWORDS][..size.block_length(b) as usize],
-        );
-    }
-}
-
-#[test]
-fn a_block_that_is_put_leaves_the_others(rt: HostRuntime) {
-    let Some(mut words) = counted() else {
-        holds(&rt, false);
-        return;
-    };
-    clear_block(&mut words, 8);
-    holds(&rt, ends_of(&words, 7) == (7, 17, 169, 218));
-    holds(&rt, ends_of(&words, 8) == (0, 0, 0, 217));
     holds(&rt, ends_of(&words, 9) == (9, 19, 161, 217));
 }

@@ -1,13 +1,14 @@
 //! Messages that are written in ASCII.
 
 use super::*;
+use dm_layout::Size;
 
 /// Whether the ASCII codewords of these items, with pads up to the size of this side, are these.
 fn writes(items: &[Item], side: u16, expected: &[u8]) -> bool {
-    match ascii_words(&of_items(items)) {
-        Ok(words) => are_words(&with_pads(&words, Size::of_side(side)), expected),
-        Err(_) => false,
-    }
+    let (Ok(words), Some(size)) = (ascii_words(&of_items(items)), Size::of_side(side)) else {
+        return false;
+    };
+    words.len() <= usize::from(size.data_count()) && padded(&words, size).as_slice() == expected
 }
 
 /// Items, the side of a symbol, and its data codewords in ASCII.

@@ -16,16 +16,6 @@ pub(super) fn content(words: &[u8]) -> Result<Content, ContentFault> {
     content_in(Extent::Wide, words)
 }
 
-/// The codewords of the content in its normal form under the profile.
-fn form_of(profile: Profile, content: &Content) -> Result<ArrayVec<u8, MOST_GRID_DATA>, TooLong> {
-    let mut words = [0; MOST_GRID_DATA];
-    let (items, marks) = (content.items(), content.marks());
-    match content_words_to(profile, content.head(), items, marks, &mut words) {
-        Ok(count) => Ok(list_of(&words[..count])),
-        Err(TooLong) => Err(TooLong),
-    }
-}
-
 /// Whether the items are these bytes, of which 232 stands for FNC1.
 fn are_said(items: &[Item], bytes: &[u8]) -> bool {
     if items.len() != bytes.len() {
@@ -92,57 +82,6 @@ fn are_refused(rows: &[(&[u8], ContentFault)]) -> bool {
         }
     }
     true
-}
-
-/// The number of the symbology identifier of the codewords, and 0 where they say no content.
-fn identifier(words: &[u8]) -> u8 {
-    if words.len() > MOST_GRID_DATA {
-        return 0;
-    }
-    let mut content = Content::new();
-    match content_to_as(Extent::Wide, words, &mut content) {
-        Ok(()) => symbology_number(words, &content),
-        Err(_) => 0,
-    }
-}
-
-/// Codewords, and the number of their symbology identifier.
-static IDENTIFIED_ROWS: [(&[u8], u8); 15] = [
-    (&[241, 27, 66, 67, 68, 129], 4),
-    (&[233, 28, 1, 2, 66, 129], 1),
-    (&[234, 142, 164, 186, 129], 1),
-    (&[236, 241, 27, 66, 129], 4),
-    (&[232, 241, 27, 66], 5),
-    (&[66, 232, 67], 3),
-    (&[233, 15, 1, 1, 232, 66], 2),
-    (&[240, 241, 4, 39, 192, 67], 1),
-    (&[230, 87, 199, 254, 241, 27, 66], 4),
-    (&[50, 51, 232], 1),
-    (&[142, 232], 3),
-    (&[230, 10, 121, 129], 1),
-    (&[234, 230, 232], 3),
-    (&[240, 232, 66], 3),
-    (&[236, 232, 66], 3),
-];
-
-/// Whether the codewords of each row have its identifier.
-fn are_identified(rows: &[(&[u8], u8)]) -> bool {
-    for (words, number) in rows {
-        if identifier(words) != *number {
-            return false;
-        }
-    }
-    true
-}
-
-/// A symbol of a sequence.
-fn symbol(index: u8, count: u8, file_high: u8, file_low: u8) -> Option<Head> {
-    Some(Head::Appended(Appended {
-        index,
-        count,
-        file_high,
-        file_low,
-    }))
 }
 
 /// Marks.
@@ -269,55 +208,6 @@ static REFUSED_ROWS: [(&[u8], ContentFault); 18] = [
     ),
 ];
 
-/// Codewords that are the normal form of the content that they say. The last row has two digits and a mark between.
-static WRITTEN_ROWS: [&[u8]; 13] = [
-    &[66, 241, 10, 241, 27, 67],
-    &[131, 241, 4, 132],
-    &[241, 127, 66],
-    &[241, 128, 1, 66],
-    &[241, 191, 254, 66],
-    &[241, 192, 1, 1, 66],
-    &[241, 207, 63, 129],
-    &[232, 241, 27, 66],
-    &[233, 28, 1, 2, 66],
-    &[233, 241, 254, 254, 66],
-    &[234, 142, 164, 186],
-    &[66, 232, 67],
-    &[50, 241, 4, 51],
-];
-
-/// Whether the normal form of the content that the codewords say is these codewords.
-fn is_written(words: &[u8]) -> bool {
-    let Ok(content) = content(words) else {
-        return false;
-    };
-    match form_of(Profile::Shorter, &content) {
-        Ok(form) => form.as_slice() == words,
-        Err(TooLong) => false,
-    }
-}
-
-/// Whether each of these lists is written as it is.
-fn are_written(rows: &[&[u8]]) -> bool {
-    for words in rows {
-        if !is_written(words) {
-            return false;
-        }
-    }
-    true
-}
-
-/// Whether a content is written and read back.
-fn is_read_back(written: &Content) -> bool {
-    match form_of(Profile::Ascii, written) {
-        Ok(form) => match content(form.as_slice()) {
-            Ok(found) => found == *written,
-            Err(_) => false,
-        },
-        Err(TooLong) => false,
-    }
-}
-
 /// A content with a head, so many bytes, and a mark behind them.
 fn of_many_with_mark(count: usize) -> Content {
     let mut content = Content::new();
@@ -329,24 +219,20 @@ fn of_many_with_mark(count: usize) -> Content {
     content
 }
 
-#[test]
-fn contents_have_their_identifiers(rt: HostRuntime) {
-    holds(&rt, are_identified(&IDENTIFIED_ROWS));
+/// How many codewords of the largest grid the content takes in its normal form, if it has one there.
+fn taken(content: &Content) -> Option<usize> {
+    let mut words = [0; MOST_GRID_DATA];
+    let (items, marks) = (content.items(), content.marks());
+    content_words_to(Profile::Ascii, content.head(), items, marks, &mut words).ok()
 }
 
 #[test]
-fn contents_are_written(rt: HostRuntime) {
-    holds(&rt, are_written(&WRITTEN_ROWS));
-}
-
-#[test]
-fn long_contents_are_read_back(rt: HostRuntime) {
-    holds(&rt, is_read_back(&of_many_with_mark(MOST_GRID_DATA - 5)));
-    let too_long = form_of(Profile::Ascii, &of_many_with_mark(MOST_GRID_DATA - 4));
-    holds(&rt, too_long == Err(TooLong));
-    let mut cleared = of_many_with_mark(3);
-    cleared.clear();
-    holds(&rt, cleared == Content::new());
+fn contents_are_written_where_there_is_room(rt: HostRuntime) {
+    let mut content = of_many_with_mark(MOST_GRID_DATA - 5);
+    holds(&rt, taken(&content) == Some(MOST_GRID_DATA));
+    holds(&rt, taken(&of_many_with_mark(MOST_GRID_DATA - 4)).is_none());
+    content.clear();
+    holds(&rt, content == Content::new());
 }
 
 #[test]
