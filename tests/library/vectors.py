@@ -134,8 +134,9 @@ def written():
     yield write(fills), symbol(fills)
     yield read(Symbol(symbol_of(fills)[1], (104, 104)), 0, WIDE), reading((104, 104), fills)
     for count, choice, named in DIGIT_SIZES:
-        shape, chosen = (choice, (0, 0)) if isinstance(choice, int) else (ONE, choice)
-        yield asked(b"0" * count, USUAL, shape, chosen), answer(b"0" * count, SIZE_OF.get(named), True)
+        digits, (shape, chosen) = b"0" * count, (choice, (0, 0)) if isinstance(choice, int) else (ONE, choice)
+        refused = write(digits, SMALLEST, shape, chosen), no(14)
+        yield (asked(digits, USUAL, shape, chosen), answer(digits, SIZE_OF[named], True)) if named else refused
 
 
 def doubtful():
@@ -160,7 +161,6 @@ def doubtful():
 
 
 # ---- The two dealings of 144 x 144, of A to W over and over, so that no two blocks are alike
-
 LETTERS = [65 + place % 23 for place in range(LARGEST.data)]
 DEALT = [codewords(LARGEST, ascii_words(LETTERS)), dealt_anew(LARGEST, codewords(LARGEST, ascii_words(LETTERS)))]
 
