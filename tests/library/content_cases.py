@@ -278,7 +278,6 @@ def orders():
 
 
 # ---- The other dealing
-
 def dealt():
     """144 x 144 whose check codewords are dealt anew from the first block on."""
     size, named = LARGEST, LARGEST.named
@@ -308,8 +307,6 @@ def dealt():
 
 
 # ---- Marks of other encoders
-
-
 def printed(*files):
     """The marks of these files of the corpus: of each its name, rows and columns, what it says, and its modules."""
     for mark in (mark for file in files for mark in corpus.marks(file)):

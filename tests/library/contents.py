@@ -312,7 +312,6 @@ def content_words(content, profile=0):
 
 
 # ---- The smallest symbol, by a search over all codewords that can say something
-
 class Sayings:
     """Where codewords that say a content may come to, in a symbol of so many: every way, at no cost."""
 
@@ -427,7 +426,6 @@ def smallest(content, extent, choice, named=(0, 0)):
 
 
 # ---- Symbols
-
 def symbol_of(said, profile=0, shape=SQUARE, named=(0, 0)):
     """The size and modules of the smallest symbol of a shape, or of a named one, with a content; or None."""
     words = content_words(content_of(said), profile)

@@ -41,7 +41,7 @@ NORMAL = [
 WRITTEN = [
     ("a line", "write", b"123456\n", 0, GRID_123456 + b"\n"), ("a line without LF", "write", b"A", 0, GRID_A + b"\n"),
     ("a refused line and another", "write", b"\\q\nA\n", 1, b"\\no 15 escape 1\n\n" + GRID_A + b"\n"),
-    ("other spellings", "write", b"\\x41\n\\x31\\x323456", 0, GRID_A + b"\n" + GRID_123456 + b"\n"),
+    ("another spelling", "write", b"\\x41\n", 0, GRID_A + b"\n"),
     *((f"the line {line}", "write", line, 1, b"\\no 15 escape %d\n\n" % column) for line, column in (
         (b"\\q\n", 1), (b"\\q", 1), (b"ab\\x4\n", 3), (b"ab\\x4", 3), (b"\\x41\\q\n", 5), (b"\\x41\\q", 5),
         (b"A\tB\n", 2), (b"A\tB", 2))),
@@ -83,6 +83,11 @@ class Answers(Case):
             self.row(f"{record[:60]}, {word}", ran([word], record + b"\n"), alone)
             told += b"123456\nA\n"
             self.row(f"{record[:60]}, and the next", ran(["read"], record + b"\n\n" + TWO), (1, told, b""))
+
+    def test_lines_are_read_back(self):
+        grids = ran(["write"], b"\\\\\n\\F\n\\x7e\n\\F01\n0\\F1\n123\n\\xff\n\n123456\nA").output
+        lines = b"\\\\\n\\F\n~\n\\F01\n0\\F1\n123\n\\xFF\n\n123456\nA\n"
+        self.row("lines that are written", ran(["read"], grids), (0, lines, b""))
 
     def test_the_table_of_sizes(self):
         self.rows([("the table", ran(["table"], b"1\n"), (0, TABLE, b""))])
