@@ -39,11 +39,6 @@ pub(crate) fn of_items(items: &[Item]) -> Message {
     message
 }
 
-/// Whether the message has exactly these items.
-pub(crate) fn has_items(message: &Message, items: &[Item]) -> bool {
-    message.items() == items
-}
-
 /// Whether the items are these bytes.
 pub(crate) fn are_bytes(items: &[Item], bytes: &[u8]) -> bool {
     if items.len() != bytes.len() {

@@ -1,9 +1,7 @@
 //! Codewords and the messages that they spell, or the faults with which they are refused: `dm_words`.
 
 use crate::claims::holds;
-use crate::messages::{
-    Codewords, add_word, are_all, are_bytes, has_bytes, has_items, of_items, of_many,
-};
+use crate::messages::{Codewords, add_word, are_bytes, has_bytes, of_items, of_many};
 use arrayvec::ArrayVec;
 use dm_words::*;
 
@@ -20,14 +18,6 @@ fn message(words: &[u8]) -> Result<Message, WordFault> {
         return Err(WordFault::LeftOut(0, 0));
     }
     message_of(words)
-}
-
-/// Whether the codewords spell these items.
-fn spells(words: &[u8], items: &[Item]) -> bool {
-    match message(words) {
-        Ok(message) => has_items(&message, items),
-        Err(_) => false,
-    }
 }
 
 /// Whether the codewords spell these bytes.
@@ -126,8 +116,9 @@ fn reads_messages(rt: HostRuntime) {
     holds(&rt, lines::are_spelled(Extent::Usual, BASE_256));
 }
 
-/// Codewords that are reserved or left out, and the fault with which they are refused.
-static NO_CHARACTERS: [(&[u8], WordFault); 9] = [
+/// Codewords that spell no message, and the fault with which they are refused.
+static REFUSED: [(&[u8], WordFault); 59] = [
+    // Codewords that are reserved or left out.
     (&[66, 0], WordFault::Reserved(2)),
     (&[242], WordFault::Reserved(1)),
     (&[240, 66, 129], WordFault::LeftOut(240, 1)),
@@ -137,10 +128,20 @@ static NO_CHARACTERS: [(&[u8], WordFault); 9] = [
     (&[237], WordFault::LeftOut(237, 1)),
     (&[241], WordFault::LeftOut(241, 1)),
     (&[66, 255], WordFault::Reserved(2)),
-];
-
-/// Codewords whose Upper Shift has no character, and the fault with which they are refused.
-static UPPER_SHIFTS: [(&[u8], WordFault); 9] = [
+    (&[243], WordFault::Reserved(1)),
+    (&[244], WordFault::Reserved(1)),
+    (&[245], WordFault::Reserved(1)),
+    (&[246], WordFault::Reserved(1)),
+    (&[247], WordFault::Reserved(1)),
+    (&[248], WordFault::Reserved(1)),
+    (&[249], WordFault::Reserved(1)),
+    (&[250], WordFault::Reserved(1)),
+    (&[251], WordFault::Reserved(1)),
+    (&[252], WordFault::Reserved(1)),
+    (&[253], WordFault::Reserved(1)),
+    (&[254], WordFault::Reserved(1)),
+    (&[255], WordFault::Reserved(1)),
+    // Codewords whose Upper Shift has no character.
     (&[235], WordFault::Unfinished(1)),
     (&[66, 66, 235], WordFault::Unfinished(3)),
     (&[235, 130, 129], WordFault::UpperShift(1)),
@@ -150,18 +151,12 @@ static UPPER_SHIFTS: [(&[u8], WordFault); 9] = [
     (&[239, 235], WordFault::Unfinished(2)),
     (&[230, 10, 242, 187, 252], WordFault::UpperShift(2)),
     (&[230, 19, 58, 187, 199], WordFault::UpperShift(4)),
-];
-
-/// Codewords with a pair whose number is no triplet, and the fault with which they are refused.
-static TRIPLETS: [(&[u8], WordFault); 4] = [
+    // Codewords with a pair whose number is no triplet.
     (&[230, 250, 1], WordFault::Triplet(2)),
     (&[230, 0, 0], WordFault::Triplet(2)),
     (&[230, 87, 199, 0, 0], WordFault::Triplet(4)),
     (&[238, 0, 0], WordFault::Triplet(2)),
-];
-
-/// Codewords with a shift before a value without meaning, and the fault with which they are refused.
-static VALUES: [(&[u8], WordFault); 14] = [
+    // Codewords with a shift before a value without meaning.
     (&[230, 10, 161], WordFault::Value(2)),
     (&[230, 10, 161, 0, 0], WordFault::Value(2)),
     (&[230, 5, 4], WordFault::Value(2)),
@@ -176,10 +171,7 @@ static VALUES: [(&[u8], WordFault); 14] = [
     (&[230, 17, 132], WordFault::Value(2)),
     (&[239, 17, 132], WordFault::Value(2)),
     (&[230, 10, 242, 175, 124], WordFault::Value(4)),
-];
-
-/// Codewords of a segment whose length is missing or too long, and the fault with which they are refused.
-static LENGTHS: [(&[u8], WordFault); 10] = [
+    // Codewords of a segment whose length is missing or too long.
     (&[231, 47, 65], WordFault::Length(1)),
     (&[66, 66, 231], WordFault::Length(3)),
     (&[230, 91, 11, 231], WordFault::Length(4)),
@@ -204,16 +196,5 @@ fn all_are_refused(rows: &[(&[u8], WordFault)]) -> bool {
 
 #[test]
 fn refuses_what_spells_no_message(rt: HostRuntime) {
-    holds(&rt, all_are_refused(&NO_CHARACTERS));
-    holds(&rt, all_are_refused(&UPPER_SHIFTS));
-    holds(&rt, all_are_refused(&TRIPLETS));
-    holds(&rt, all_are_refused(&VALUES));
-    holds(&rt, all_are_refused(&LENGTHS));
-}
-
-#[test]
-fn refuses_reserved_codewords(rt: HostRuntime) {
-    for codeword in 242..=255u8 {
-        holds(&rt, is_refused(&[codeword], WordFault::Reserved(1)));
-    }
+    holds(&rt, all_are_refused(&REFUSED));
 }

@@ -47,37 +47,9 @@ fn messages_are_written_in_ascii(rt: HostRuntime) {
     }
 }
 
-/// Whether the ASCII codewords of the message are so many times this one.
-fn is_written(message: &Message, word: u8, count: usize) -> bool {
-    match ascii_words(message) {
-        Ok(words) => words.len() == count && are_all(&words, word),
-        Err(_) => false,
-    }
-}
-
 #[test]
-fn fills_a_message(rt: HostRuntime) {
+fn a_full_message_takes_no_item(rt: HostRuntime) {
     let mut full = of_many(b'7', MESSAGE_ROOM);
     holds(&rt, full.push(Item::Fnc1) == Err(Item::Fnc1));
     holds(&rt, full.items().len() == MESSAGE_ROOM);
-    let digits = of_many(b'7', MOST_ITEMS);
-    holds(&rt, is_written(&digits, 207, MOST_GRID_DATA));
-    holds(&rt, spells(&[207; MOST_GRID_DATA], digits.items()));
-}
-
-/// Whether so many contents take as many codewords.
-fn takes_one_each(count: usize) -> bool {
-    is_written(&of_many(b'A', count), 66, count)
-}
-
-#[test]
-fn contents_take_a_codeword_each(rt: HostRuntime) {
-    holds(
-        &rt,
-        takes_one_each(204) && takes_one_each(205) && takes_one_each(MOST_GRID_DATA),
-    );
-    holds(
-        &rt,
-        ascii_words(&of_many(b'A', MOST_GRID_DATA + 1)).is_err(),
-    );
 }

@@ -89,7 +89,9 @@ static REFUSED_USUALLY: [(&[u8], WordFault); 17] = [
     (&[239, 87, 199], WordFault::Unfinished(2)),
 ];
 
-/// Runs of EDIFACT with their latch at each of the last four places of a symbol.
+/// Runs of EDIFACT with their latch at each of the last four places of a symbol. Then those behind a whole group, of
+/// which the first, the second, the third or the fourth value behind it is an unlatch, or none is where at most two
+/// codewords are left, with up to three codewords behind it; and those whose second group is whole.
 static EDIFACT_AT_THE_END: &[u8] = b"\
 66 67 68 240 =ABC
 66 67 240 124 =AB{
@@ -102,11 +104,6 @@ static EDIFACT_AT_THE_END: &[u8] = b"\
 240 4 31 66 =AA=B
 240 4 39 192 =AB
 240 4 32 223 =ABC
-";
-
-/// Runs of EDIFACT behind a whole group, whose next value is an unlatch, or is none where at most two codewords are
-/// left.
-static ENDED_FIRST: &[u8] = b"\
 240 4 32 196 124 =ABCD{
 240 4 32 196 124 66 =ABCD{A
 240 4 32 196 124 66 129 =ABCDA
@@ -115,10 +112,6 @@ static ENDED_FIRST: &[u8] = b"\
 240 4 32 196 127 66 =ABCD~A
 240 4 32 196 127 66 129 =ABCDA
 240 4 32 196 127 66 67 129 =ABCDAB
-";
-
-/// The same where the second value behind the group is the unlatch, with up to three codewords behind it.
-static ENDED_SECOND: &[u8] = b"\
 240 4 32 196 5 240 =ABCD\x04
 240 4 32 196 5 240 66 =ABCDAA
 240 4 32 196 5 240 66 129 =ABCDAA
@@ -126,10 +119,6 @@ static ENDED_SECOND: &[u8] = b"\
 240 4 32 196 5 255 66 =ABCDAA
 240 4 32 196 5 255 66 129 =ABCDAA
 240 4 32 196 5 255 66 67 129 =ABCDAAB
-";
-
-/// The same where it is the third value.
-static ENDED_THIRD: &[u8] = b"\
 240 4 32 196 4 39 192 =ABCDAB
 240 4 32 196 4 39 192 66 =ABCDABA
 240 4 32 196 4 39 192 66 129 =ABCDABA
@@ -138,10 +127,6 @@ static ENDED_THIRD: &[u8] = b"\
 240 4 32 196 4 39 255 66 =ABCDABA
 240 4 32 196 4 39 255 66 129 =ABCDABA
 240 4 32 196 4 39 255 66 67 129 =ABCDABAB
-";
-
-/// The same where it is the fourth value, or where the second group is whole.
-static ENDED_FOURTH: &[u8] = b"\
 240 4 32 196 4 32 223 =ABCDABC
 240 4 32 196 4 32 223 66 =ABCDABCA
 240 4 32 196 4 32 223 66 129 =ABCDABCA
@@ -152,8 +137,10 @@ static ENDED_FOURTH: &[u8] = b"\
 240 4 32 196 4 32 31 66 67 129 =ABCDAB@AB
 ";
 
-/// The latch to C40 at the last places of a symbol, behind a content.
-static LATCHED_C40: &[u8] = b"\
+/// The latches to C40, to X12, to Text and to Base 256 at the last places of a symbol, behind a content, and each latch
+/// behind a macro. Then runs of C40 and Text that end with an Upper Shift that waits, alone or before a lone shift, in
+/// each way in which a run ends.
+static LATCHED: &[u8] = b"\
 66 230 =A
 66 230 91 =AZ
 66 230 254 =A
@@ -161,10 +148,6 @@ static LATCHED_C40: &[u8] = b"\
 66 230 91 11 =AAIM
 66 230 91 11 66 =AAIMA
 66 230 91 11 254 =AAIM
-";
-
-/// The latch to X12 there.
-static LATCHED_X12: &[u8] = b"\
 66 238 =A
 66 238 91 =AZ
 66 238 254 =A
@@ -172,10 +155,6 @@ static LATCHED_X12: &[u8] = b"\
 66 238 91 11 =AAIM
 66 238 91 11 66 =AAIMA
 66 238 91 11 254 =AAIM
-";
-
-/// The latch to Text there.
-static LATCHED_TEXT: &[u8] = b"\
 66 239 =A
 66 239 91 =AZ
 66 239 254 =A
@@ -183,10 +162,6 @@ static LATCHED_TEXT: &[u8] = b"\
 66 239 91 11 =Aaim
 66 239 91 11 66 =AaimA
 66 239 91 11 254 =Aaim
-";
-
-/// The latch to Base 256 there, and each latch behind a macro.
-static LATCHED: &[u8] = b"\
 66 231 193 =A
 66 231 194 88 =A\x01
 237 231 194 65 =[)>\x1E06\x1D\xEA\x1E\x04
@@ -196,11 +171,6 @@ static LATCHED: &[u8] = b"\
 236 129 0 =[)>\x1E05\x1D\x1E\x04
 237 240 =[)>\x1E06\x1D\x1E\x04
 236 240 124 66 129 =[)>\x1E05\x1DA\x1E\x04
-";
-
-/// Runs of C40 and Text that end with an Upper Shift that waits, alone or before a lone shift, in each way in which a
-/// run ends.
-static FILLED: &[u8] = b"\
 230 87 199 =A
 230 87 199 254 =A
 230 87 199 66 =AA
@@ -226,17 +196,9 @@ fn reads_edifact_macros_and_waiting_shifts(rt: HostRuntime) {
 #[test]
 fn reads_edifact_up_to_the_last_places(rt: HostRuntime) {
     holds(&rt, are_spelled(Extent::Wide, EDIFACT_AT_THE_END));
-    holds(&rt, are_spelled(Extent::Wide, ENDED_FIRST));
-    holds(&rt, are_spelled(Extent::Wide, ENDED_SECOND));
-    holds(&rt, are_spelled(Extent::Wide, ENDED_THIRD));
-    holds(&rt, are_spelled(Extent::Wide, ENDED_FOURTH));
 }
 
 #[test]
 fn reads_runs_up_to_the_last_places(rt: HostRuntime) {
-    holds(&rt, are_spelled(Extent::Wide, LATCHED_C40));
-    holds(&rt, are_spelled(Extent::Wide, LATCHED_X12));
-    holds(&rt, are_spelled(Extent::Wide, LATCHED_TEXT));
     holds(&rt, are_spelled(Extent::Wide, LATCHED));
-    holds(&rt, are_spelled(Extent::Wide, FILLED));
 }
