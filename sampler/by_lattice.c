@@ -14,7 +14,9 @@ enum { SPOTS = 12, BORDERS = 6, LEAST_EXTENT = 8, CLEAR = 6 };
 struct tries {
     int spots, lattices, together;
 };
-static const double LEAST_OF_SEED = 0.7; /* of the edges of the modules around a place, for a net to grow there */
+/* For a net to grow at a place: of the clear edges around it, the share on the lattice; and of the places of edges, the
+ * share that has one: about half. In the middle of modules there is none, in letters there are more. */
+static const double LEAST_NEAR_OF_SEED = 0.7, LEAST_CLEAR_OF_SEED = 0.4, MOST_CLEAR_OF_SEED = 0.65;
 static const struct tries USUAL = {SPOTS, 2 * MOST_LATTICES, 1};
 /* Where dots are thicker than they are, which is tried last, what a symbol shows is among the first. */
 static const struct tries OF_DOTS = {2, 2, 1};
@@ -78,7 +80,7 @@ struct begun {
 
 static void keep_begun(struct begun *begun, const struct lattice *lattice) {
     int at = begun->count++;
-    for (; at > 0 && begun->items[at - 1].near < lattice->near; at--)
+    for (; at > 0 && begun->items[at - 1].first.near < lattice->first.near; at--)
         begun->items[at] = begun->items[at - 1];
     begun->items[at] = *lattice;
 }
@@ -97,10 +99,11 @@ static void begin_at(struct search *search, const struct view *view, const struc
     for (int k = 0; k < count && k < view->tries.lattices; k++) {
         if (begin_lattice(ground, &lattices[k], search->judge.places, &lattice))
             keep_begun(begun, &lattice);
-        if (lattice.near > seed.near)
-            seed.to_picture = lattice.warp.to_picture, seed.near = lattice.near;
+        struct support first = lattice.first;
+        if (first.near > seed.near && first.clear >= LEAST_CLEAR_OF_SEED && first.clear <= MOST_CLEAR_OF_SEED)
+            seed.to_picture = lattice.warp.to_picture, seed.near = first.near;
     }
-    if (view->inverted != NULL && seed.near >= LEAST_OF_SEED)
+    if (view->inverted != NULL && seed.near >= LEAST_NEAR_OF_SEED)
         keep_seed(&search->seeds, seed);
 }
 

@@ -1,7 +1,5 @@
 #include "lattice.h"
 
-#include "witness.h"
-
 enum { FIRST_REACH = 4, LEAST_STEP = 2, STEPS = 16, SIDES_OF_A_PART = 4 };
 static const double LEAST_CLEAR = 0.12; /* of the places between modules, of which about half have an edge */
 static const double LEAST_NEAR = 0.55;  /* of the clear edges */
@@ -38,16 +36,16 @@ static bool is_taken(const struct ground *ground, const struct warp *warp, struc
     return false;
 }
 
-/* The share of clear edges that lie on a lattice, in a part of it, of those of this contrast and share of the mean at
- * least; 0 if there are too few, or the part is somebody else's. */
-static double near_in(const struct ground *ground, struct layout *room, const struct lattice *lattice, struct part part,
-                      double least, double share, double *mean) {
+/* How edges lie on a lattice, in a part of it, of those of this contrast and share of the mean at least; none, if there
+ * are too few, or the part is somebody else's. */
+static struct support support_in(const struct ground *ground, struct layout *room, const struct lattice *lattice,
+                                 struct part part, double least, double share) {
+    struct support support = {0};
     if (is_taken(ground, &lattice->warp, part))
-        return 0;
+        return support;
     lay_out_places(room, part);
-    struct support support = support_of(ground->grey, room, &lattice->warp, least, share);
-    *mean = support.mean;
-    return support.clear >= LEAST_CLEAR ? support.near : 0;
+    support = support_of(ground->grey, room, &lattice->warp, least, share);
+    return support.clear >= LEAST_CLEAR ? support : (struct support){0};
 }
 
 /* How many modules a part grows by: few, or one of so many of it, which saves many small steps of a large one. */
@@ -79,10 +77,10 @@ static struct part both_of(struct part one, struct part other) {
 static bool grow(const struct ground *ground, struct layout *room, struct lattice *lattice) {
     struct part before = lattice->part;
     bool grows = false;
-    double mean, least = LEAST_SHARE * lattice->contrast;
+    double least = LEAST_SHARE * lattice->first.mean;
     for (int side = 0; side < SIDES_OF_A_PART; side++) {
         struct part strip = strip_beside(before, side);
-        if (near_in(ground, room, lattice, strip, least, 0, &mean) >= LEAST_NEAR)
+        if (support_in(ground, room, lattice, strip, least, 0).near >= LEAST_NEAR)
             grows = true, lattice->part = both_of(lattice->part, strip);
     }
     return grows;
@@ -96,13 +94,14 @@ static bool has_room(struct part part) {
 bool begin_lattice(const struct ground *ground, const struct homography *to_picture, struct layout *room,
                    struct lattice *out) {
     const struct plane *grey = ground->grey;
-    *out = (struct lattice){settled(grey, to_picture), {-FIRST_REACH, FIRST_REACH, -FIRST_REACH, FIRST_REACH}, 0, 0};
-    out->near = near_in(ground, room, out, out->part, 0, LEAST_SHARE, &out->contrast);
-    if (out->near >= LEAST_UNFITTED) {
+    out->warp = settled(grey, to_picture);
+    out->part = (struct part){-FIRST_REACH, FIRST_REACH, -FIRST_REACH, FIRST_REACH};
+    out->first = support_in(ground, room, out, out->part, 0, LEAST_SHARE);
+    if (out->first.near >= LEAST_UNFITTED) {
         refine(grey, room, out->part, STIFF, 3, 0, &out->warp);
-        out->near = near_in(ground, room, out, out->part, 0, LEAST_SHARE, &out->contrast);
+        out->first = support_in(ground, room, out, out->part, 0, LEAST_SHARE);
     }
-    return out->near >= LEAST_FIRST;
+    return out->first.near >= LEAST_FIRST;
 }
 
 void grow_lattice(const struct ground *ground, struct layout *room, struct limit *limit, struct lattice *lattice) {

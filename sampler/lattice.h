@@ -6,14 +6,14 @@
 #include "layout.h"
 #include "plane.h"
 #include "warp.h"
+#include "witness.h"
 
 enum { MOST_EXTENT = MOST_SIDE + 16 }; /* modules each way */
 
 struct lattice {
-    struct warp warp; /* from modules to pixels */
-    struct part part; /* the modules that it has */
-    double near;      /* of the clear edges of its first modules, the share that is where it should be */
-    double contrast;  /* of these edges, the mean */
+    struct warp warp;     /* from modules to pixels */
+    struct part part;     /* the modules that it has */
+    struct support first; /* of its first modules */
 };
 
 /* Where lattices grow: a level, and what is known of the picture, `scale` pixels of which are one of the level. */
