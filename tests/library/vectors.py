@@ -57,9 +57,10 @@ DIGIT_SIZES = [(10, SQUARE, (12, 12)), (10, RECTANGLE, (8, 18)), (10, ANY, (12, 
                (168, EXTENDED, (26, 48)), (168, SQUARE, (36, 36)), (168, (20, 64), (20, 64)), (169, (20, 64), None),
                (168, (64, 20), None), (1632, ANY, (104, 104)), (1633, ANY, (120, 120))]
 # First and other codewords of side 104, how many items they say in the wide extent, and the last one; or the refusal.
-WHOLE = [(237, 142, 1639, 4), (236, 130, 1639, 4), (240, 240, 1084, 48), (240, 124, 814, 123), (240, 31, 815, 30),
-         (240, 129, 1084, 65), (237, 240, 1093, 4), (236, 230, 1230, 4), (230, 240, 1221, 90), (239, 87, 1222, 86),
-         (240, 255, no(7, 0, 815)), (240, 0, no(7, 0, 815)), (236, 235, no(9, 0, 2)), (237, 237, no(8, 237, 2))]
+WHOLE = [(237, 142, 1639, 4), (236, 130, 1639, 4), (236, 207, 1639, 4), (240, 240, 1084, 48), (240, 124, 814, 123),
+         (240, 31, 815, 30), (240, 129, 1084, 65), (237, 240, 1093, 4), (236, 230, 1230, 4), (230, 240, 1221, 90),
+         (239, 87, 1222, 86), (240, 255, no(7, 0, 815)), (240, 0, no(7, 0, 815)), (236, 235, no(9, 0, 2)),
+         (237, 237, no(8, 237, 2))]
 
 
 def refusal_of(said):
@@ -111,6 +112,12 @@ def of_codewords():
         assert content is None or [len(content.items), content.items[-1]] == said
         wanted = reading((104, 104), content, identifier=identifier) if content else said[0]
         yield read(square_of(words), 0, WIDE), wanted
+        yield normal(square_of(words), 0, 0, WIDE), symbol(content) if content else said[0]
+    for content in (content_said(both[1]) for both in CODEWORDS.values() if isinstance(both, tuple)):
+        size, modules = symbol_of(content)
+        for extent in (USUAL, WIDE):
+            yield read(Symbol(modules, size.named), 0, extent), reading(size.named, content)
+            yield normal(Symbol(modules, size.named), 0, 0, extent), symbol(content)
 
 
 def written():
@@ -128,8 +135,11 @@ def written():
                         (1048, 1050), (1555, 1558), (1556, 1558)):
         to_the_end = [231, randomised(0, 2), *(randomised(255, at) for at in range(3, count + 3))]
         words = to_the_end if count + 2 == size else base_256_words([255] * count)
+        assert square_of(words).size.data == size
         yield write([255] * count, SMALLEST), in_words(words)
     yield write([255] * 1557, SMALLEST), no(14)
+    for items in (b"123456", b"\x80" * 3, b"A"):
+        yield write(items, 1, ONE, (12, 12)), symbol(items, 1, ONE, (12, 12))
     fills = Content((65,) * 811, ((999_999, 811),), "programming")
     yield write(fills), symbol(fills)
     yield read(Symbol(symbol_of(fills)[1], (104, 104)), 0, WIDE), reading((104, 104), fills)
@@ -157,7 +167,8 @@ def doubtful():
         grid = Symbol(modules_of(SIZE_OF[named], [0] * 21), named).changed(32 * row + column for row, column in some)
         marks = [int(divmod(at, 32) in marked) for at in range(256)] if marked else ()
         for limit in range(5):
-            yield read(grid, limit, USUAL, doubt=marks), no(7, 0, 1) if limit >= count else no(5, count)
+            for doubt in (marks, *([[0] * 256] if not marks else [])):
+                yield read(grid, limit, USUAL, doubt=doubt), no(7, 0, 1) if limit >= count else no(5, count)
 
 
 # ---- The two dealings of 144 x 144, of A to W over and over, so that no two blocks are alike
@@ -176,11 +187,12 @@ def laid(words):
 
 def dealings():
     """The other dealing is read in the wide extent alone; either corrects as much; both have one normal symbol."""
-    for (dealing, words), count in itertools.product(enumerate(DEALT), (0, 31)):
-        grid, wanted = laid(spoilt(words, count)), reading(LARGEST.named, LETTERS, [count] * 10, dealing=dealing)
-        yield read(grid, 0, USUAL), no(6) if dealing else wanted
-        yield read(grid, 0, WIDE), wanted
-        yield normal(grid, 0, 0, WIDE), symbol(LETTERS)
+    for dealing, words in enumerate(DEALT):
+        for count in (0, 31):
+            grid, wanted = laid(spoilt(words, count)), reading(LARGEST.named, LETTERS, [count] * 10, dealing=dealing)
+            yield read(grid, 0, USUAL), no(6) if dealing else wanted
+            yield read(grid, 0, WIDE), wanted
+            yield normal(grid, 0, 0, WIDE), symbol(LETTERS)
         yield read(laid(spoilt(words, 32, [5])), 0, WIDE), no(6, 0, 0 if dealing else 5)
         # all check codewords of block 0 are wrong and doubtful
         wrong = [255 * (at >= LARGEST.data and (at + dealing * 2) % 10 == 0) for at in range(len(words))]
@@ -192,6 +204,7 @@ def dealings():
 def shown_dealings():
     """Codewords of 144 x 144, and what an inspection shows: its dealing, what they are mended to, and the counts."""
     yield spoilt(DEALT[1], 31), 1, DEALT[1], (31,) * 10
+    yield spoilt(DEALT[0], 31, [8]), 0, DEALT[0], (0,) * 8 + (31, 0)
     yield (lost := spoilt(DEALT[0], 32, [5])), 0, lost, (0,) * 5 + (None,) + (0,) * 4
     yield (lost := spoilt(DEALT[1], 32, [5])), 0, lost, (None,) * 10
 

@@ -173,5 +173,6 @@ class Lists(Case):
         for words, dealing, mended, corrected in shown_dealings():
             modules = bytes(laid(words))
             got = module().inspect([modules[at:at + 144] for at in range(0, 144 * 144, 144)])
-            self.row(f"dealing {dealing}, {corrected}", (got.dealing, [*got.held], [*got.mended], got.corrected),
-                     (dealing, words, mended, corrected))
+            left = tuple(0 if it is None else 62 - 2 * it for it in corrected)
+            self.row(f"dealing {dealing}, {corrected}", (got.dealing, [*got.held], [*got.mended], got.corrected,
+                     got.erased, got.left), (dealing, words, mended, corrected, (0,) * 10, left))

@@ -16,7 +16,8 @@ READ = [
         ("normal", GRID_123456 + b"\n" + GRID_A + b"\n"))),
 ]
 BORDERS = [
-    ("a wrong bottom row", "read --border 2", NO_BOTTOM_ROW, 1, b"\\no 5 border 10\n"),
+    *((f"a wrong bottom row by {words}", words, NO_BOTTOM_ROW, 1, b"\\no 5 border 10\n")
+      for words in ("read --border 2", "read", "check")),
     ("a wrong bottom row that is accepted", "read --border 10", NO_BOTTOM_ROW, 0, b"123456\n"),
     ("a check that refuses it", "check --border 2", NO_BOTTOM_ROW, 1, b"\\no 5 border 10\n"),
     ("a normal grid of none", "normal --border 2", NO_BOTTOM_ROW, 1, b"\\no 5 border 10\n\n"),
@@ -41,7 +42,7 @@ NORMAL = [
 WRITTEN = [
     ("a line", "write", b"123456\n", 0, GRID_123456 + b"\n"), ("a line without LF", "write", b"A", 0, GRID_A + b"\n"),
     ("a refused line and another", "write", b"\\q\nA\n", 1, b"\\no 15 escape 1\n\n" + GRID_A + b"\n"),
-    ("another spelling", "write", b"\\x41\n", 0, GRID_A + b"\n"),
+    *((f"another spelling, {line}", "write", line, 0, GRID_A + b"\n") for line in (b"\\x41\n", b"\\x41")),
     *((f"the line {line}", "write", line, 1, b"\\no 15 escape %d\n\n" % column) for line, column in (
         (b"\\q\n", 1), (b"\\q", 1), (b"ab\\x4\n", 3), (b"ab\\x4", 3), (b"\\x41\\q\n", 5), (b"\\x41\\q", 5),
         (b"A\tB\n", 2), (b"A\tB", 2))),
@@ -77,12 +78,12 @@ class Answers(Case):
             self.row(name, ran(words.split(), given), (status, output, b""))
 
     def test_records_are_refused_and_the_next_is_read(self):
-        for (record, why), word in itertools.product(NO_GRIDS, ("read", "check", "normal")):
-            told = b"\\no %s\n" % why
-            alone = (1, told + b"\n" * (word == "normal"), b"")
-            self.row(f"{record[:60]}, {word}", ran([word], record + b"\n"), alone)
-            told += b"123456\nA\n"
-            self.row(f"{record[:60]}, and the next", ran(["read"], record + b"\n\n" + TWO), (1, told, b""))
+        of_two = {"read": b"123456\nA\n", "check": b"ok 10 border 0 corrected 0\n" * 2,
+                  "normal": GRID_123456 + b"\n" + GRID_A + b"\n"}
+        for (record, why), (word, said) in itertools.product(NO_GRIDS, of_two.items()):
+            told = b"\\no %s\n" % why + b"\n" * (word == "normal")
+            self.row(f"{record[:60]}, {word}", ran([word], record + b"\n"), (1, told, b""))
+            self.row(f"{record[:60]}, {word}, and the next", ran([word], record + b"\n\n" + TWO), (1, told + said, b""))
 
     def test_lines_are_read_back(self):
         grids = ran(["write"], b"\\\\\n\\F\n\\x7e\n\\F01\n0\\F1\n123\n\\xff\n\n123456\nA").output

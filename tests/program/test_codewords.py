@@ -97,10 +97,10 @@ def messages():
 
 @needs.program
 class Codewords(Case):
-    def answers(self, words, given, wanted):
-        """Puts lines or grids to the program, all at once, and, if they are few, each alone."""
+    def answers(self, words, given, wanted, alone=True):
+        """Puts lines or grids to the program, all at once, and each alone."""
         is_line, are_grids = words.startswith("write"), words.startswith(("write", "normal"))
-        for some in (slice(None), *(slice(at, at + 1) for at in range(len(given)) if len(given) < 99)):
+        for some in (slice(None), *(slice(at, at + 1) for at in range(len(given) * alone))):
             done = ran(words.split(), b"".join(text + (b"\n" if is_line else b"\n\n") for text in given[some]))
             got, asked = done.output.split(b"\n\n" if are_grids else b"\n")[:-1], wanted[some]
             unlike = [pair for pair in zip(got, asked) if pair[0] != pair[1]]
@@ -110,10 +110,12 @@ class Codewords(Case):
     def test_wrong_codewords_and_modules(self):
         for rows in (with_wrong_codewords(), with_wrong_modules()):
             grids, said, corrected = zip(*rows)
-            self.answers("read", grids, said)
+            self.answers("read", grids, said, alone=False)
+            made = [line if line.startswith(b"\\no ") else normal(line.decode()) for line in said]
+            self.answers("normal", grids, made, alone=False)
             known = [at for at, line in enumerate(said) if line.startswith(b"\\no ") or corrected[at] is not None]
             self.answers("check", [grids[at] for at in known], [
-                said[at] if corrected[at] is None else checked(grids[at], corrected[at]) for at in known])
+                said[at] if corrected[at] is None else checked(grids[at], corrected[at]) for at in known], alone=False)
 
     def test_each_encodation(self):
         grids = [drawn(square_of(bytes.fromhex(digits))) for digits in CODEWORDS]

@@ -30,6 +30,7 @@ fn the_last_blocks_of_144_have_one_data_codeword_fewer(rt: HostRuntime) {
     holds(&rt, lengths_at(144, 9) == (155, 217));
     holds(&rt, lengths_at(144, 10) == (0, 0));
     holds(&rt, lengths_at(132, 7) == (163, 225));
+    holds(&rt, lengths_at(104, 0) == (136, 192));
 }
 
 /// The codewords of 144 x 144 of which each is its place modulo 251.

@@ -57,7 +57,7 @@ static SIZES: &[u8] =
       80 16 18 72 456 192 4 24\n88 16 20 80 576 224 4 28\n96 16 22 88 696 272 4 34\n104 16 24 96 816 336 6 28\n";
 
 /// Runs of texts without records or lines, of records, and of lines.
-static RUNS: [Run<'_>; 17] = [
+static RUNS: [Run<'_>; 18] = [
     (Task::Read(None), b"", b"", 0, 0),
     (Task::Check(None), b"", b"", 0, 0),
     (Task::Normal(None, Profile::Ascii), b"", b"", 0, 0),
@@ -76,6 +76,13 @@ static RUNS: [Run<'_>; 17] = [
     (Task::Normal(None, Profile::Ascii), LETTER, LETTER, 1, 0),
     (Task::Normal(None, Profile::Shorter), DIGITS, DIGITS, 1, 0),
     (Task::Read(None), b"10x\n", b"\\no 1 character\n", 0, 1),
+    (
+        Task::Read(None),
+        b"10x\n\n1\n",
+        b"\\no 1 character\n\\no 4 side 1\n",
+        0,
+        2,
+    ),
     (Task::Check(None), b"10\n1\n", b"\\no 3 shape\n", 0, 1),
     (
         Task::Normal(None, Profile::Ascii),
@@ -100,6 +107,9 @@ fn each_task_has_its_answers(rt: HostRuntime) {
     for run in &RUNS {
         holds(&rt, writes(*run));
     }
+    let text = joined(&[b"10x\n\n", TWO_GRIDS]);
+    let written = b"\\no 1 character\n123456\nA\n";
+    holds(&rt, writes((Task::Read(None), &text, written, 2, 1)));
 }
 
 #[test]
