@@ -1,7 +1,5 @@
 """What was worked out by hand, or by a model that isn't kept here: data codewords and what they say, and contents and
 their codewords; damage of which it is known where it is; borders; both dealings. The program takes some of it too."""
-import itertools
-
 from tests.library.cases import (LARGEST, SMALLEST, TEN, USUAL, WIDE, Symbol, grid_of, held_by, no, normal, read,
                                  reading, symbol, write)
 from tests.library.content_cases import smallest_named

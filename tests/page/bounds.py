@@ -1,5 +1,4 @@
-"""What is too much is said and not let in, and what can't be drawn in bounded time isn't drawn; what is dropped is
-taken, or said not to be."""
+"""What is too much is said and not let in; what takes too long isn't drawn; what is dropped is taken, or said so."""
 import base64
 
 from tests.page.pictures import chunks, opened, png
@@ -116,8 +115,7 @@ def drawings():
     for name, inner, why in (
         ("100,000 uses", nested(5), many), ("many uses of the first of a name", FIRST_OF_A_NAME, many),
         ("nested uses", nested(9), many), ("nested uses by xlink", nested(40, "xlink"), many),
-        ("nested patterns", nested(9, "pattern"), many),
-        ("itself", '<g id="a"><use href="#a"/></g>', many),
+        ("nested patterns", nested(9, "pattern"), many), ("itself", '<g id="a"><use href="#a"/></g>', many),
         ("a chain", chain, many), ("layers", '<g opacity=".5"><path d="M0 0h1v1z"/></g>' * 400, many),
         ("texts", f'<defs><text id="t">{"word " * 1000}</text></defs>{USE_OF_TEXT * 20}', many),
         ("a filter", "<filter id='f'/>",

@@ -101,8 +101,7 @@ def first_line(fault):
 
 
 def end():
-    """Ends the browser. What a lost driver has left is ended by its number: all processes of the session that the
-    driver leads."""
+    """Ends the browser, and, if its driver is lost, by number all processes of the session that the driver leads."""
     try:
         on.page.quit()
     except Exception:

@@ -44,8 +44,7 @@ def at_work():
 
 
 def rows_of(name, page):
-    """What a part compares in the page, and why it couldn't go on, if it couldn't. If the browser is lost the part is
-    run once more in another one."""
+    """What a part compares in the page, and why it couldn't go on. A lost browser has it run once more in another."""
     part = next(each for each in PARTS if each.__name__ == name)
     for _ in range(2):
         browser.have()

@@ -101,8 +101,7 @@ def turned_to_another():
 
 
 def another_message():
-    """Four of the six codewords in which two symbols differ, taken from the second: it is read as that, and the page
-    says so."""
+    """Four of the six codewords in which two symbols differ, taken from the second: it is read, which is said."""
     turned_to_another()
     agree("another message")
     expect("another message said", (shown()["state"], shown()["says"], shown()["why"].split(",")[0]),
@@ -220,8 +219,7 @@ def by_keys():
 
 
 def codewords():
-    """Values, bits and where they stand, in a small symbol and in one of two blocks; what damaged ones are corrected
-    to."""
+    """Values, bits and where they stand, in a small symbol and one of two blocks; what is corrected to what."""
     write("123456")
     learn()
     expect("codewords", [held for held, _, _ in cells()], [142, 164, 186, 114, 25, 5, 88, 102])

@@ -94,8 +94,7 @@ COPY_PICTURE = """const [body, done] = arguments, bytes = Uint8Array.from(atob(b
 
 
 def pasted_pictures():
-    """A picture on the clipboard is pasted: in the message, in no field, and in a slot of the comparison, which takes
-    it itself."""
+    """A picture on the clipboard is pasted: in the message, in no field, and in a slot of the comparison."""
 
     def copy(message):
         expect(f"{message} on the clipboard",

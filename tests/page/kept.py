@@ -69,8 +69,7 @@ def parts_survive():
 
 
 def address_is_bare():
-    """No message stands in the address, whatever is entered, until a link is copied, and then until something
-    changes."""
+    """No message stands in the address until a link is copied, and then until something changes."""
     fragment = lambda: address().partition("#")[2]
     write("a secret")
     linked()

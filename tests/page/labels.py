@@ -177,14 +177,12 @@ CSV = {
     "a column of messages": ('text,Message\nfirst,123\n"a, b","4""5"\n\n', ["123", '4"5'], ["first", "a, b"]),
     "identifiers with texts and copies": (
         "01,17,10,text,qty\n09506000134352,271231,AB-42,first,2\n09506000134352,,C,second,\n09506000134352,,D,none,0\n",
-        ["\\F010950600013435217271231" + "10AB-42"] * 2 + ["\\F0109506000134352" + "10C"],
-        ["first", "first", "second"],
+        ["\\F010950600013435217271231" + "10AB-42"] * 2 + ["\\F0109506000134352" + "10C"], ["first", "first", "second"],
     ),
     "a message with copies": ("Quantity\tMESSAGE\r\n3\tA1\r\n1\tB2", ["A1"] * 3 + ["B2"], ["A1"] * 3 + ["B2"]),
     "names of identifiers": (
         'sep=;\n"GTIN";"Expiry date";"Lot, or batch";Batch/Lot;Serial number;Caption\n'
-        '09506000134352;271231;;AB-42;S1;"a; b"\n',
-        ["\\F010950600013435217271231" + "10AB-42\\F21S1"], ["a; b"],
+        '09506000134352;271231;;AB-42;S1;"a; b"\n', ["\\F010950600013435217271231" + "10AB-42\\F21S1"], ["a; b"],
     ),
     "names with separators": ('"Lot; or batch",Batch/Lot\n,AB-42\n', ["\\F10AB-42"], ["(10)AB-42"]),
     "what a spreadsheet keeps from being a formula": ("message,text\n'=1+1,'@x\n''-2,\n", ["=1+1", "'-2"], ["@x"]),

@@ -92,8 +92,7 @@ def phone_set():
 # ---- One picture
 
 def spent():
-    """The nanoseconds of a processor that each thread of the browser's processes has taken, but for the driver, and its
-    name."""
+    """The nanoseconds that each thread of the browser's processes, but the driver, has taken, and its name."""
     leaders, threads = {service.process.pid for service in browser.started}, {}
     for process in pathlib.Path("/proc").glob("[0-9]*"):
         try:

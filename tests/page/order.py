@@ -376,8 +376,7 @@ def as_answered(question, answer):
 
 
 def is_linked(now, ends, size):
-    """Whether the address says what is entered and in which size, and which of its modules are turned over or
-    doubtful."""
+    """Whether the address says what is entered, in which size, and which modules are turned over or doubtful."""
     linked, (original, _, _) = fields(now["linked"]), ends["write"]
     text, doubtful = now["marks"]["write"]["now"]
     damage, doubts = ([], []) if original is None else (changed(original, text), places_in(doubtful))

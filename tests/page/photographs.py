@@ -17,8 +17,7 @@ BESIDE = 1000  # milliseconds that dmtxread may take for one
 
 
 def made(name, share, *more):
-    """Of each kind of picture every so many, in a folder of this name, and what they say; none if what makes them isn't
-    there."""
+    """Of each kind of picture every so many, in a folder of this name, and what they say; none without their maker."""
     folder = on.folder / name
     if not (folder / "index.json").exists():
         if not MAKER.exists():
@@ -52,8 +51,7 @@ def photographs():
 
 
 def dmtxread_misses(folder, pictures, least):
-    """Whether dmtxread misses so many of the pictures. Each that it misses takes it a second, so no more are looked
-    for."""
+    """Whether dmtxread misses so many of the pictures: each miss takes it a second, so no more are looked for."""
     missed = 0
     if not shutil.which("dmtxread"):
         print("left out: photographs beside dmtxread, which isn't installed")

@@ -122,8 +122,7 @@ def pictures():
 
 
 def printed():
-    """How good the print is stands beside what is read in a picture, if that is no grid alone, and beside nothing
-    else."""
+    """How good the print is stands beside what is read in a picture that isn't only a grid, and beside nothing else."""
     push("tab-read")
     rows = written("Mitsubadoor").split("\n")
     table = lambda: run("return [...document.querySelectorAll('#print-quality tbody tr')]"

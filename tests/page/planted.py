@@ -28,8 +28,7 @@ def sources(_=None):
 
 
 def laid(spoilt):
-    """Packs the page and the module for other programs anew, and lays what keeps the page beside them; gives the page's
-    file."""
+    """Packs the page and the module for programs anew, with what keeps the page beside them; gives the page's file."""
     code = [(pack.HERE / "out" / name).read_bytes() for name in ("lowered.wasm", "sampler.wasm")]
     page, on.module, on.beside = (on.folder / name for name in ("spoilt.html", "spoilt.mjs", "beside"))
     page.write_text(pack.packed(*code, spoilt), encoding="utf-8")

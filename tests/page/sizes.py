@@ -107,8 +107,7 @@ def sizes():
 
 
 def sizes_by_shape():
-    """The smallest size of each shape, and one size, for messages of many lengths under both profiles; and what fits
-    none."""
+    """The smallest size of each shape, and one size, for messages of many lengths by both profiles; what fits none."""
     unfold("form")
     letters = "".join(f"\\x{byte:02X}" for byte in range(128, 256))
     lines = ["", "12", "123456", "A" * 9, "Ab1" * 5, "\\F0109506000134352", letters[:80], "9" * 130, "Z" * 48]

@@ -501,8 +501,7 @@ def media(**features):
 
 @contextlib.contextmanager
 def unseen():
-    """Meanwhile nothing is laid out or painted, which takes most of the time where only texts are compared, hundreds of
-    times."""
+    """Meanwhile nothing is laid out or painted, which takes most of the time where only texts are compared."""
     run("document.documentElement.style.display = 'none'")
     try:
         yield

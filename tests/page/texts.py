@@ -80,8 +80,7 @@ def pasted():
     spoilt = clean[:30] + "10"[int(clean[30])] + clean[31:]
     for name, text in {
         "as it is": spoilt, "with CR": spoilt.replace("\n", "\r\n"), "with blank lines around": f"\n\n{spoilt}\n\n",
-        "#.": spoilt.translate(str.maketrans("10", "#.")),
-        "X.": spoilt.translate(str.maketrans("10", "X.")),
+        "#.": spoilt.translate(str.maketrans("10", "#.")), "X.": spoilt.translate(str.maketrans("10", "X.")),
         "# and space, cut off at the right and indented": "\n".join(
             "   " + row.rstrip() for row in spoilt.translate(str.maketrans("10", "# ")).split("\n")
         ),
