@@ -1,10 +1,12 @@
 //! Runs over memory: for each task what is written, and how it is counted.
 
 mod failing;
+mod grids;
+mod messages;
+mod profiles;
 
 use super::feeds::TWO_GRIDS;
 use super::memory::{MemorySink, Taken, TextSource};
-use super::worked::{DIGITS, LETTER};
 use crate::claims::holds;
 use dm_symbol::Profile;
 use dm_text::{RunFault, Sink, Source, Tally, Task, run};
@@ -12,13 +14,23 @@ use dm_text::{RunFault, Sink, Source, Tally, Task, run};
 /// More bytes than any text of these tests has.
 const MOST: u32 = 1 << 30;
 
+/// Appends bytes, and says whether there was room for them.
+pub(super) fn push(text: &mut Taken, bytes: &[u8]) -> bool {
+    text.try_extend_from_slice(bytes).is_ok()
+}
+
 /// These bytes, one after another, as far as there is room.
 pub(super) fn joined(parts: &[&[u8]]) -> Taken {
     let mut text = Taken::new();
     for part in parts {
-        let _room = text.try_extend_from_slice(part);
+        push(&mut text, part);
     }
     text
+}
+
+/// The bytes and an LF.
+pub(super) fn ended(line: &[u8]) -> Taken {
+    joined(&[line, b"\n"])
 }
 
 /// What a run of the task comes to.
@@ -37,15 +49,37 @@ fn has_taken(sink: &MemorySink, written: &[u8]) -> bool {
 }
 
 /// A task, its text, what it writes, and how many records or lines it answers and refuses.
-type Run<'a> = (Task, &'a [u8], &'a [u8], u64, u64);
+pub(super) type Run<'a> = (Task, &'a [u8], &'a [u8], u64, u64);
 
 /// Whether the task writes exactly this for its text, with these counts. The sink is flushed once, when it has taken
 /// all of it.
-fn writes(run: Run<'_>) -> bool {
+pub(super) fn writes(run: Run<'_>) -> bool {
     let (task, text, written, answered, refused) = run;
     let mut sink = MemorySink::new();
     let outcome = ran(task, &mut TextSource::new(text), &mut sink, MOST);
     outcome == Ok(Tally { answered, refused }) && has_taken(&sink, written)
+}
+
+/// Whether the task writes just this for a text of one record or line, and counts it as refused where this is a
+/// refusal.
+pub(super) fn answers(task: Task, text: &[u8], written: &[u8]) -> bool {
+    let refused = u64::from(written.starts_with(b"\\no "));
+    writes((task, text, written, 1u64.saturating_sub(refused), refused))
+}
+
+/// The text of a grid of this side, and of the empty line after it, has so many bytes.
+pub(super) fn has_side(text: &[u8], side: usize) -> bool {
+    text.len()
+        == side
+            .saturating_mul(side.saturating_add(1))
+            .saturating_add(1)
+}
+
+/// What the task writes for this text.
+fn written_for(task: Task, text: &[u8]) -> Taken {
+    let mut sink = MemorySink::new();
+    let _counted = ran(task, &mut TextSource::new(text), &mut sink, MOST);
+    joined(&[sink.taken()])
 }
 
 /// The table of sizes.
@@ -56,8 +90,8 @@ static SIZES: &[u8] =
       48 4 22 44 174 68 1 34\n52 4 24 48 204 84 2 21\n64 16 14 56 280 112 2 28\n72 16 16 64 368 144 4 18\n\
       80 16 18 72 456 192 4 24\n88 16 20 80 576 224 4 28\n96 16 22 88 696 272 4 34\n104 16 24 96 816 336 6 28\n";
 
-/// Runs of texts without records or lines, of records, and of lines.
-static RUNS: [Run<'_>; 18] = [
+/// Runs of a text without records or lines.
+static NO_ANSWERS: [Run<'_>; 7] = [
     (Task::Read(None), b"", b"", 0, 0),
     (Task::Check(None), b"", b"", 0, 0),
     (Task::Normal(None, Profile::Ascii), b"", b"", 0, 0),
@@ -65,51 +99,13 @@ static RUNS: [Run<'_>; 18] = [
     (Task::Normal(None, Profile::Shorter), b"", b"", 0, 0),
     (Task::Write(Profile::Shorter), b"", b"", 0, 0),
     (Task::Read(None), b"\n\n", b"", 0, 0),
-    (Task::Read(None), TWO_GRIDS, b"123456\nA\n", 2, 0),
-    (
-        Task::Check(Some(0)),
-        DIGITS,
-        b"ok 10 border 0 corrected 0\n",
-        1,
-        0,
-    ),
-    (Task::Normal(None, Profile::Ascii), LETTER, LETTER, 1, 0),
-    (Task::Normal(None, Profile::Shorter), DIGITS, DIGITS, 1, 0),
-    (Task::Read(None), b"10x\n", b"\\no 1 character\n", 0, 1),
-    (
-        Task::Read(None),
-        b"10x\n\n1\n",
-        b"\\no 1 character\n\\no 4 side 1\n",
-        0,
-        2,
-    ),
-    (Task::Check(None), b"10\n1\n", b"\\no 3 shape\n", 0, 1),
-    (
-        Task::Normal(None, Profile::Ascii),
-        b"1\n",
-        b"\\no 4 side 1\n\n",
-        0,
-        1,
-    ),
-    (Task::Write(Profile::Ascii), b"A\n", LETTER, 1, 0),
-    (Task::Write(Profile::Shorter), b"123456", DIGITS, 1, 0),
-    (
-        Task::Write(Profile::Ascii),
-        b"\\q\n",
-        b"\\no 15 escape 1\n\n",
-        0,
-        1,
-    ),
 ];
 
 #[test]
-fn each_task_has_its_answers(rt: HostRuntime) {
-    for run in &RUNS {
+fn an_empty_text_has_no_answers(rt: HostRuntime) {
+    for run in &NO_ANSWERS {
         holds(&rt, writes(*run));
     }
-    let text = joined(&[b"10x\n\n", TWO_GRIDS]);
-    let written = b"\\no 1 character\n123456\nA\n";
-    holds(&rt, writes((Task::Read(None), &text, written, 2, 1)));
 }
 
 #[test]
