@@ -2,7 +2,7 @@
 
 #include <math.h>
 
-enum { MARGIN = 4, SHARE = 16, AROUND = 3, POINTS = 3 };
+enum { MARGIN = 4, AROUND = 3, POINTS = 3 };
 static const double APART = 0.2; /* modules: how far the points of a module are from one another */
 
 static float brightness_of(const struct plane *grey, const struct warp *warp, int x, int y) {
@@ -14,11 +14,9 @@ static float brightness_of(const struct plane *grey, const struct warp *warp, in
     return (float)(total / (POINTS * POINTS));
 }
 
-/* The first of as many modules as there is room for of those from `first` to `last`, which are in the middle, and to
- * both sides a few and a share of them. */
+/* The first of at most `most` modules that has those from `first` to `last` in the middle. */
 static int begin(int first, int last, int *count) {
-    int wanted = last - first + 2 * (MARGIN + (last - first) / SHARE);
-    *count = wanted < MOST_FIELD ? wanted : MOST_FIELD;
+    *count = last - first + 2 * MARGIN < MOST_FIELD ? last - first + 2 * MARGIN : MOST_FIELD;
     return (first + last - *count) / 2;
 }
 
