@@ -1,11 +1,14 @@
 //! Messages and their normal grids, under both profiles, and grids and what they say: `dm_symbol`. Symbols with damage,
 //! with doubtful modules and with contents, of all sizes, are tried by `tests/program` and `tests/library`.
 
-use crate::calls::{grid_of, grid_with, lift, normal, normal_as, read, side_of, write, write_as};
+use crate::calls::{
+    grid_of, grid_with, is_dark_at, lift, normal, normal_as, read, side_of, write, write_as,
+};
 use crate::claims::holds;
-use crate::messages::{has_bytes, of_bytes, of_many};
+use crate::messages::{Codewords, add_word, has_bytes, of_bytes, of_many};
 use dm_layout::Grid;
 use dm_symbol::{Profile, ReadFault, usual_limit};
+use dm_words::WordFault;
 
 /// The grid of side 10 whose cells are these characters, row by row: 1 is dark, 0 light.
 fn drawn(cells: &[u8; 100]) -> Grid {
@@ -107,6 +110,59 @@ fn compares_the_border_with_the_limit(rt: HostRuntime) {
     holds(&rt, is_refused(&grid, 2));
     holds(&rt, is_refused(&grid, 9));
     holds(&rt, says(&grid, 10, b"123456", 10));
+}
+
+/// The grid of side 12 with its fixed square turned over.
+fn with_square_turned(grid: &Grid) -> Grid {
+    let mut cells = [false; 144];
+    for place in 0..144usize {
+        let (row, column) = (place / 12, place % 12);
+        let turned = (row == 9 || row == 10) && (column == 9 || column == 10);
+        cells[place] = is_dark_at(grid, row as u16, column as u16) != turned;
+    }
+    grid_with(12, &cells)
+}
+
+/// Whether reading finds the reserved codeword 0 in the first place.
+fn is_of_zeros(grid: &Grid) -> bool {
+    read(grid, 3).err() == Some(ReadFault::Words(WordFault::Reserved(1)))
+}
+
+#[test]
+fn ignores_the_fixed_square(rt: HostRuntime) {
+    let zeros = grid_of(12, &[]);
+    let turned = with_square_turned(&zeros);
+    holds(&rt, zeros != turned);
+    holds(&rt, is_of_zeros(&zeros) && is_of_zeros(&turned));
+}
+
+/// The grid with so many of its first codewords wrong.
+fn damaged(grid: &Grid, most: usize) -> Grid {
+    let mut list = Codewords::new();
+    for word in lift(grid).list() {
+        let wrong = list.len() < most;
+        add_word(&mut list, if wrong { *word ^ 255 } else { *word });
+    }
+    grid_of(side_of(grid), &list)
+}
+
+/// Whether the grid of 408 digits is read with 21 codewords of each block wrong.
+fn is_corrected() -> bool {
+    let Ok(grid) = write(&of_many(b'7', 408)) else {
+        return false;
+    };
+    match read(&damaged(&grid, 42), 13) {
+        Ok(reading) => {
+            has_bytes(&reading.message, &[b'7'; 408])
+                && reading.corrected.as_slice() == [21, 21].as_slice()
+        }
+        Err(_) => false,
+    }
+}
+
+#[test]
+fn corrects_both_blocks_of_side_52(rt: HostRuntime) {
+    holds(&rt, is_corrected());
 }
 
 /// Whether the normal grid of so many bytes under the profile has this side and these data codewords.

@@ -1,7 +1,7 @@
 //! Codewords and the messages that they spell, or the faults with which they are refused: `dm_words`.
 
 use crate::claims::holds;
-use crate::messages::{Codewords, add_word, are_bytes, has_bytes, of_items, of_many};
+use crate::messages::{Codewords, add_word, are_all, are_bytes, has_bytes, of_items, of_many};
 use arrayvec::ArrayVec;
 use dm_words::*;
 
@@ -25,6 +25,31 @@ fn spells_bytes(words: &[u8], bytes: &[u8]) -> bool {
     match message(words) {
         Ok(message) => has_bytes(&message, bytes),
         Err(_) => false,
+    }
+}
+
+/// Whether the codewords spell these items.
+fn spells(words: &[u8], items: &[Item]) -> bool {
+    match message(words) {
+        Ok(message) => *message.items() == *items,
+        Err(_) => false,
+    }
+}
+
+/// Data codewords and the items that they spell.
+static WITH_FNC1: [(&[u8], &[Item]); 3] = [
+    (&[230, 10, 135], &[Item::Fnc1, Item::Byte(b'A')]),
+    (&[239, 10, 124], &[Item::Fnc1, Item::Byte(b' ')]),
+    (
+        &[49, 232, 50],
+        &[Item::Byte(b'0'), Item::Fnc1, Item::Byte(b'1')],
+    ),
+];
+
+#[test]
+fn reads_fnc1(rt: HostRuntime) {
+    for (words, items) in &WITH_FNC1 {
+        holds(&rt, spells(words, items));
     }
 }
 

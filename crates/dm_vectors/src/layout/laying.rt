@@ -28,6 +28,26 @@ fn is_drawn(grid: &Grid, drawn: &[&str]) -> bool {
     row == side_of(grid)
 }
 
+/// The symbol of `123456`.
+static WORKED: [&str; 10] = [
+    "1010101010",
+    "1100101101",
+    "1100000100",
+    "1100011101",
+    "1100001000",
+    "1000001111",
+    "1110110000",
+    "1111011001",
+    "1001110100",
+    "1111111111",
+];
+
+#[test]
+fn the_symbol_of_123456_is_as_drawn(rt: HostRuntime) {
+    let grid = grid_of(10, &[142, 164, 186, 114, 25, 5, 88, 102]);
+    holds(&rt, is_drawn(&grid, &WORKED));
+}
+
 /// The symbol of side 12 whose codewords are zeros, with its fixed square.
 static ZEROS: [&str; 12] = [
     "101010101010",

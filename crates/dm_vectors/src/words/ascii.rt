@@ -47,6 +47,26 @@ fn messages_are_written_in_ascii(rt: HostRuntime) {
     }
 }
 
+/// Whether so many contents take as many codewords.
+fn takes_one_each(count: usize) -> bool {
+    match ascii_words(&of_many(b'A', count)) {
+        Ok(words) => words.len() == count && are_all(&words, 66),
+        Err(_) => false,
+    }
+}
+
+#[test]
+fn contents_take_a_codeword_each(rt: HostRuntime) {
+    holds(
+        &rt,
+        takes_one_each(204) && takes_one_each(205) && takes_one_each(MOST_GRID_DATA),
+    );
+    holds(
+        &rt,
+        ascii_words(&of_many(b'A', MOST_GRID_DATA + 1)).is_err(),
+    );
+}
+
 #[test]
 fn a_full_message_takes_no_item(rt: HostRuntime) {
     let mut full = of_many(b'7', MESSAGE_ROOM);
