@@ -63,12 +63,13 @@ def glare(look, _):
     look.lit = glaring_light
 
 
-def brushed(picture, look, chance, noises):
+def brushed(picture, look, chance, noises, least=40, most=120):
+    """Streaks along one direction, and a highlight across them, lighter by `least` to `most` levels."""
     height, width = picture.shape[:2]
     streaks = cv2.GaussianBlur(noises.normal(0, 1, (height, width)), (0, 0), sigmaX=8 * look.pixels,
                                sigmaY=0.3 * look.pixels)
     down = numpy.mgrid[0:height, 0:width][0] / height - chance.uniform(0.2, 0.8)
-    highlight = chance.uniform(40, 120) * numpy.exp(-(down / chance.uniform(0.05, 0.2)) ** 2)
+    highlight = chance.uniform(least, most) * numpy.exp(-(down / chance.uniform(0.05, 0.2)) ** 2)
     return picture + (chance.uniform(8, 25) * streaks / streaks.std() + highlight)[:, :, None]
 
 
@@ -206,9 +207,9 @@ def cylinder(look, _):
     look.rolled = rolled
 
 
-def smeared(picture, look, chance, _):
-    """The picture as a camera takes it that moves along a bent path of one to three modules."""
-    reach = chance.uniform(1, 3) * look.pixels
+def smeared(picture, look, chance, _, least=1, most=3):
+    """The picture as a camera takes it that moves along a bent path of `least` to `most` modules."""
+    reach = chance.uniform(least, most) * look.pixels
     angle, bend = chance.uniform(0, 2 * math.pi), chance.uniform(-0.6, 0.6)
     size = 2 * math.ceil(reach) + 3
     kernel = numpy.zeros((size, size), numpy.float32)
@@ -223,9 +224,9 @@ def motion(look, _):
     look.lit, look.blur = smeared, 0
 
 
-def unfocused(picture, look, chance, _):
-    """The picture through a round lens that isn't focused."""
-    radius = chance.uniform(0.4, 0.9) * look.pixels
+def unfocused(picture, look, chance, _, least=0.4, most=0.9):
+    """The picture through a round lens that isn't focused: a disc of `least` to `most` of a module's radius."""
+    radius = chance.uniform(least, most) * look.pixels
     reach = math.ceil(radius)
     down, right = numpy.mgrid[-reach:reach + 1:(2 * reach + 1) * 1j, -reach:reach + 1:(2 * reach + 1) * 1j]
     kernel = numpy.clip(radius + 0.5 - numpy.hypot(down, right), 0, 1).astype(numpy.float32)

@@ -22,27 +22,29 @@ def taken(ink, right, down):
 
 # ---- film: gleams on it, and what is behind it
 
-def gleaming(picture, look, chance, noises):
+def gleaming(picture, look, chance, noises, least=60, most=160):
+    """Gleams along folds, lighter by `least` to `most` levels."""
     high, wide = picture.shape[:2]
     folds = soft(noises, high, wide, chance.uniform(4, 10) * look.pixels)
-    gleam = chance.uniform(60, 160) * numpy.exp(-(folds / chance.uniform(0.05, 0.15)) ** 2)
+    gleam = chance.uniform(least, most) * numpy.exp(-(folds / chance.uniform(0.05, 0.15)) ** 2)
     return picture + gleam[:, :, None]
 
 
-def seen_through(picture, look, chance, noises):
+def seen_through(picture, look, chance, noises, least=30, most=60):
+    """What is behind, darker by `least` to `most` levels, and gleams."""
     high, wide = picture.shape[:2]
     behind = soft(noises, high, wide, chance.uniform(5, 12) * look.pixels) > chance.uniform(-0.5, 0.5)
-    return gleaming(picture - (chance.uniform(30, 60) * behind)[:, :, None], look, chance, noises)
+    return gleaming(picture - (chance.uniform(least, most) * behind)[:, :, None], look, chance, noises)
 
 
-def film(look, chance):
+def film(look, chance, least=40, most=70):
     light = chance.uniform(150, 210)
-    look.ground, look.ink, look.lit = (light,) * 3, (light - chance.uniform(40, 70),) * 3, gleaming
+    look.ground, look.ink, look.lit = (light,) * 3, (light - chance.uniform(least, most),) * 3, gleaming
 
 
-def clearfilm(look, chance):
+def clearfilm(look, chance, least=70, most=110):
     light = chance.uniform(160, 220)
-    look.ground, look.ink, look.lit = (light,) * 3, (light - chance.uniform(70, 110),) * 3, seen_through
+    look.ground, look.ink, look.lit = (light,) * 3, (light - chance.uniform(least, most),) * 3, seen_through
 
 
 # ---- round and bent things
@@ -77,19 +79,20 @@ def streaked(picture, look, chance, _):
                                                                                                                None]
 
 
-def vial(look, chance):
-    look.rolled, look.lit, look.pixels = around(35, 52), streaked, chance.choice((3, 4, 5))
+def vial(look, chance, least=35, most=52):
+    look.rolled, look.lit, look.pixels = around(least, most), streaked, chance.choice((3, 4, 5))
     look.behind = (chance.uniform(60, 200),) * 3
 
 
-def bottle(look, chance):
-    look.rolled, look.lit = around(22, 42), streaked
+def bottle(look, chance, least=22, most=42):
+    look.rolled, look.lit = around(least, most), streaked
     look.behind = (chance.uniform(20, 120),) * 3
 
 
-def crumpled(picture, look, chance, noises):
+def crumpled(picture, look, chance, noises, least=0.4, most=1.1):
+    """Paper that is bent by `least` to `most` of a module, in folds."""
     high, wide = picture.shape[:2]
-    reach, depth = chance.uniform(6, 14) * look.pixels, chance.uniform(0.4, 1.1) * look.pixels
+    reach, depth = chance.uniform(6, 14) * look.pixels, chance.uniform(least, most) * look.pixels
     right, down = (depth * soft(noises, high, wide, reach) for _ in range(2))
     sharp = numpy.abs(soft(noises, high, wide, reach))
     shade = 1 - chance.uniform(0.1, 0.3) * numpy.exp(-(sharp / 0.15) ** 2) + 0.1 * soft(noises, high, wide, reach)
@@ -112,9 +115,10 @@ def by_heat(grid, pixels, chance):
     return cv2.dilate(ink, numpy.ones((thick, 1)))
 
 
-def faded(picture, look, chance, noises):
+def faded(picture, look, chance, noises, left=0.7, least=0.25):
+    """Ink of which about so much is left, and the least where it is faintest."""
     high, wide = picture.shape[:2]
-    fade = numpy.clip(0.7 + 0.25 * soft(noises, high, wide, 8 * look.pixels), 0.25, 1)[:, :, None]
+    fade = numpy.clip(left + 0.25 * soft(noises, high, wide, 8 * look.pixels), least, 1)[:, :, None]
     light = numpy.array(look.ground)[None, None, :picture.shape[2]]
     return light + (picture - light) * fade
 
@@ -145,9 +149,9 @@ def fluted(picture, look, chance, noises):
     return picture + (chance.uniform(4, 14) * wave + chance.uniform(4, 10) * fibres / fibres.std())[:, :, None]
 
 
-def carton(look, chance):
+def carton(look, chance, least=45, most=80):
     light = chance.uniform(110, 160)
-    look.ground, look.ink = (light,) * 3, (light - chance.uniform(45, 80),) * 3
+    look.ground, look.ink = (light,) * 3, (light - chance.uniform(least, most),) * 3
     look.drawn, look.lit = jetted, fluted
 
 
@@ -159,9 +163,9 @@ def etched(picture, look, chance, noises):
     return picture + slope[:, :, None] + chance.uniform(0.5, 2) * soft(noises, high, wide, 6 * look.pixels)[:, :, None]
 
 
-def wafer(look, chance):
+def wafer(look, chance, least=8, most=20):
     """Etched into a mirror: hardly any contrast, and little noise."""
-    level, away = chance.uniform(70, 180), chance.uniform(8, 20)
+    level, away = chance.uniform(70, 180), chance.uniform(least, most)
     look.ground, look.ink, look.lit = (level,) * 3, (level - away,) * 3, etched
     look.noise, look.dot = chance.uniform(0.5, 2), chance.choice((None, 0.85))
 
@@ -181,12 +185,13 @@ def scan(look, chance):
     look.sensed = scanned
 
 
-def wobbling(picture, look, chance, noises):
-    """Row by row, while the camera moves and shakes."""
+def wobbling(picture, look, chance, noises, least=0.3, most=1.2):
+    """Row by row, while the camera moves and shakes by `least` to `most` modules."""
     high, _ = picture.shape[:2]
     row = numpy.arange(high)
     lean, waves = chance.uniform(-0.35, 0.35), chance.uniform(1, 3)
-    shake = chance.uniform(0.3, 1.2) * look.pixels * numpy.sin(2 * math.pi * waves * row / high + chance.uniform(0, 6))
+    wide = chance.uniform(least, most) * look.pixels
+    shake = wide * numpy.sin(2 * math.pi * waves * row / high + chance.uniform(0, 6))
     right = (lean * (row - high / 2) + shake)[:, None] + 0 * picture[:, :, 0]
     return taken(picture, right, numpy.zeros_like(right)).reshape(picture.shape)
 
@@ -195,17 +200,18 @@ def rolling(look, _):
     look.lit = wobbling
 
 
-def few_electrons(picture, look, chance, noises):
-    electrons = chance.uniform(8, 30)
+def few_electrons(picture, look, chance, noises, least=8, most=30):
+    """The picture by `least` to `most` electrons a pixel."""
+    electrons = chance.uniform(least, most)
     shown = noises.poisson(numpy.clip(picture, 0, 255) / 255 * electrons) + noises.normal(0, 1, picture.shape)
     return shown / electrons * chance.uniform(60, 140)
 
 
-def lowlight(look, chance):
+def lowlight(look, chance, least=50, most=90):
     """A dark label on lighter ground, a few modules away, in little light."""
     look.noise, look.sensed = 0, few_electrons
     dark = chance.uniform(10, 30)
-    look.ink, look.ground = (dark,) * 3, (dark + chance.uniform(50, 90),) * 3
+    look.ink, look.ground = (dark,) * 3, (dark + chance.uniform(least, most),) * 3
     look.behind = (chance.uniform(190, 250),) * 3
 
 
