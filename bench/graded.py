@@ -7,8 +7,8 @@ import cv2
 import numpy
 
 from hard import LETTERS, brushed, smeared, unfocused
-from surfaces import (bottle, by_heat, carton, clearfilm, crumpled, faded, few_electrons, film, gleaming, lowlight,
-                      scanned, seen_through, soft, vial, wafer, wobbling)
+from surfaces import (bottle, by_heat, carton, clearfilm, crumpled, faded, few_electrons, film, fluted, gleaming,
+                      lowlight, seen_through, soft, vial, wafer, wobbling)
 
 OBLONG = (8, 18), (8, 32), (12, 26), (12, 36), (16, 36), (16, 48)  # the rectangles of ISO/IEC 16022
 GOLD, SILK = (90, 170, 205), (225, 235, 235)
@@ -20,7 +20,7 @@ def has_size(kind, rows, columns):
         return rows > 104
     if kind in ("oblong", "dmre"):
         return rows != columns and ((rows, columns) in OBLONG) == (kind == "oblong")
-    return rows == columns <= (52 if kind == "small12" else 104)
+    return rows == columns <= (36 if kind == "small12" else 104)
 
 
 def changed(kind=None, light=(130, 210), faint=None, **others):
@@ -160,32 +160,34 @@ def mixed(look, chance):
 
 KINDS = {
     "bottle": partial(bottle, least=32, most=57),
-    "carton": partial(carton, least=27, most=58),
+    "carton": changed(partial(carton, least=13, most=34), lit=partial(fluted, waves=(1, 4), rough=(0.5, 2.5)),
+                      noise=(0, 2)),
     "clearfilm": changed(partial(clearfilm, least=80, most=120), lit=partial(seen_through, least=20, most=45)),
-    "crumple": changed(lit=partial(crumpled, least=0.05, most=0.28)),
-    "defocus": changed(faint=(36, 95), lit=partial(unfocused, least=0.85, most=1.12), blur=0, noise=(3, 10)),
+    "crumple": changed(faint=(12, 38), noise=(0, 2),
+                       lit=partial(crumpled, least=0.05, most=0.14, dark=(0.02, 0.06), waves=0.02)),
+    "defocus": changed(faint=(12, 60), lit=partial(unfocused, least=0.8, most=1.1), blur=0, noise=(0, 4)),
     "dirty": changed(lit=soiled),
     "dmre": changed(),
     "dotpeen": changed(light=(120, 170), faint=(85, 115), dot=(0.7, 0.9), lit=partial(brushed, least=15, most=60)),
     "fax": fax,
-    "film": changed(partial(film, least=50, most=90), lit=partial(gleaming, least=40, most=120)),
+    "film": changed(partial(film, least=9, most=32), lit=partial(gleaming, least=5, most=25), noise=(0, 3)),
     "large": changed(faint=(28, 73), pixels=[3, 3.5, 4], blur=(0.29, 0.47), noise=(2, 9)),
     "lasermetal": changed(light=(120, 160), faint=(85, 115), lit=partial(brushed, least=10, most=45)),
     "lowlight": changed(partial(lowlight, least=110, most=150), sensed=partial(few_electrons, least=100, most=400)),
     "mirrored": changed(mirrored=True, perspective=0.08, blur=(0.1, 0.45), noise=(0, 25)),
     "mixed": mixed,
-    "motion": changed(faint=(28, 62), lit=partial(smeared, least=1.2, most=2), blur=0, noise=(7, 18)),
+    "motion": changed(faint=(10, 32), lit=partial(smeared, least=1.1, most=1.9), blur=0, noise=(1, 4)),
     "oblong": changed(),
     "pcb": pcb,
     "plainphone": phone,
-    "rolling": changed(lit=partial(wobbling, least=0.2, most=0.9)),
-    "scan": changed(faint=(50, 120), pixels=[2, 2.25, 2.5, 3], perspective=0, blur=(0.38, 0.56), sensed=scanned,
-                    noise=(0, 8)),
+    "rolling": changed(faint=(12, 44), lit=partial(wobbling, least=0.1, most=0.6), noise=(0, 3)),
+    "scan": changed(faint=(10, 55), pixels=[2, 2.25, 2.5, 3], perspective=0, blur=(0.2, 0.4), noise=(0, 1.5)),
     "screen": changed(phone, lit=lit_pixels, beside=True),
     "several": changed(perspective=0.08, blur=(0.1, 0.45), noise=(5, 30)),
-    "small12": changed(phone, pixels=(2.4, 3), blur=0),
+    "small12": changed(pixels=(2.3, 3), blur=(0, 0.1), noise=(0, 3), formats=[(".jpg",)]),
     "steep": changed(rolled=tilted, perspective=0.02, pixels=[5, 6, 8, 10]),
-    "thermal": changed(drawn=by_heat, lit=partial(faded, left=0.7, least=0.25), blur=(0.2, 0.4)),
+    "thermal": changed(faint=(20, 56), drawn=by_heat, lit=partial(faded, left=0.7, least=0.35), blur=(0.1, 0.3),
+                       noise=(0, 2)),
     "tight": tight,
     "vial": partial(vial, least=45, most=58),
     "wafer": partial(wafer, least=10, most=24),

@@ -89,13 +89,13 @@ def bottle(look, chance, least=22, most=42):
     look.behind = (chance.uniform(20, 120),) * 3
 
 
-def crumpled(picture, look, chance, noises, least=0.4, most=1.1):
-    """Paper that is bent by `least` to `most` of a module, in folds."""
+def crumpled(picture, look, chance, noises, least=0.4, most=1.1, dark=(0.1, 0.3), waves=0.1):
+    """Paper that is bent by `least` to `most` of a module, in folds that are darker by such a share."""
     high, wide = picture.shape[:2]
     reach, depth = chance.uniform(6, 14) * look.pixels, chance.uniform(least, most) * look.pixels
     right, down = (depth * soft(noises, high, wide, reach) for _ in range(2))
     sharp = numpy.abs(soft(noises, high, wide, reach))
-    shade = 1 - chance.uniform(0.1, 0.3) * numpy.exp(-(sharp / 0.15) ** 2) + 0.1 * soft(noises, high, wide, reach)
+    shade = 1 - chance.uniform(*dark) * numpy.exp(-(sharp / 0.15) ** 2) + waves * soft(noises, high, wide, reach)
     return taken(picture, right, down).reshape(picture.shape) * shade[:, :, None]
 
 
@@ -140,13 +140,14 @@ def jetted(grid, pixels, chance):
     return ink
 
 
-def fluted(picture, look, chance, noises):
+def fluted(picture, look, chance, noises, waves=(4, 14), rough=(4, 10)):
+    """Board that is wavy and fibrous by so many levels."""
     high, wide = picture.shape[:2]
     angle, period = chance.uniform(0, math.pi), chance.uniform(3, 9) * look.pixels
     down, right = numpy.mgrid[0:high, 0:wide]
     wave = numpy.sin(2 * math.pi * (math.cos(angle) * right + math.sin(angle) * down) / period)
     fibres = cv2.GaussianBlur(noises.normal(0, 1, (high, wide)), (0, 0), sigmaX=2 * look.pixels, sigmaY=0.8)
-    return picture + (chance.uniform(4, 14) * wave + chance.uniform(4, 10) * fibres / fibres.std())[:, :, None]
+    return picture + (chance.uniform(*waves) * wave + chance.uniform(*rough) * fibres / fibres.std())[:, :, None]
 
 
 def carton(look, chance, least=45, most=80):
