@@ -3,8 +3,9 @@
 #include <time.h>
 
 /* A large picture takes long to open, by so much a pixel, which the usual work makes up for; but so much for each pixel
- * is allowed at least. */
-static const int64_t USUAL_WORK = 350000000, OPENING_OF_A_PIXEL = 5, LEAST_OF_A_PIXEL = 8;
+ * is allowed at least. What is larger than a sheet is a photograph, in which a symbol may be small, among much else. */
+static const int64_t USUAL_WORK = 350000000, OPENING_OF_A_PIXEL = 5, LEAST_OF_A_PIXEL = 8,
+                     WORK_OF_A_PHOTOGRAPH = 430000000;
 static const int64_t MOST_WORK = INT64_MAX / 2; /* as good as any */
 
 static int64_t now(void) {
@@ -14,7 +15,8 @@ static int64_t now(void) {
 }
 
 static int64_t usual_work(int64_t pixels) {
-    int64_t work = USUAL_WORK - OPENING_OF_A_PIXEL * pixels, least = LEAST_OF_A_PIXEL * pixels;
+    int64_t work = pixels > SHEET ? WORK_OF_A_PHOTOGRAPH : USUAL_WORK - OPENING_OF_A_PIXEL * pixels,
+            least = LEAST_OF_A_PIXEL * pixels;
     return work > least ? work : least;
 }
 

@@ -15,6 +15,8 @@ struct limit {
     enum ecc200_sample_end reached; /* what left something undone: ECC200_SAMPLE_WHOLE if nothing did */
 };
 
+enum { SHEET = 8800000 }; /* pixels: as many as a sheet of A4 has at 300 dots an inch, with some around it */
+
 /* A limit of so many milliseconds from now on; if they are ECC200_SAMPLE_ANY_TIME, of work: of so many percent of what
  * is usual for so many pixels, or any if they are ECC200_SAMPLE_ANY_EFFORT. */
 struct limit limit_from_now(uint32_t milliseconds, uint16_t effort, int64_t pixels);
@@ -27,6 +29,11 @@ static inline void limit_spend(struct limit *limit, int64_t work) {
 /* Allows half of the work that is left for what is tried next. */
 static inline void limit_begin_part(struct limit *limit) {
     limit->part = limit->left / 2;
+}
+
+/* Allows so many percent of it. */
+static inline void limit_begin_share(struct limit *limit, int percent) {
+    limit->part = limit->left / 100 * percent;
 }
 
 /* Allows all work that is left. */

@@ -170,12 +170,23 @@ static void search_woven(struct search *search, struct sight *sight, int level) 
         search_lattices(search, sight, &search->sights[1], level);
 }
 
+/* Allows the work of the level that comes as the `k`-th. In a photograph, where small symbols lie among much else, most
+ * is for its own pixels. */
+static void begin_level(struct search *search, const struct sight *sight, bool is_first, int k) {
+    static const int of_photograph[] = {33, 88}; /* percent */
+    bool is_photograph = (int64_t)sight->picture.width * sight->picture.height > SHEET;
+    if (is_first && is_photograph && k < 2)
+        limit_begin_share(search->judge.limit, of_photograph[k]);
+    else
+        limit_begin_part(search->judge.limit);
+}
+
 /* Searches all levels in one of these ways, each within a part of the limit. */
 static void search_levels(struct search *search, struct sight *sight,
                           void (*search_level)(struct search *, struct sight *, int)) {
     static const int order[LEVELS] = {1, 0, 2, 3, 4, 5};
     for (int k = 0; k < LEVELS && !is_over(search); k++) {
-        limit_begin_part(search->judge.limit);
+        begin_level(search, sight, search_level == search_lively, k);
         if (order[k] < sight->level_count)
             search_level(search, sight, order[k]);
         limit_end_part(search->judge.limit);

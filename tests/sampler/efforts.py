@@ -1,8 +1,9 @@
 """What a part of the usual work is enough for: what is found costs no more, and shows where neighbours are."""
 import random
+from bisect import bisect_left
 
 from tests.sampler.common import Searches
-from tests.sampler.pictures import grid_of
+from tests.sampler.pictures import grid_of, pixels_of
 from tests.sampler.sheets import labels, sheet_of
 from tests.sampler.sizes import tilted
 from tests.sampler.timing import draw
@@ -32,6 +33,20 @@ def noisy(seed, deviation):
                       for row in tilted(sheet_of(grids, 8, 1, 4), 2.32)]
 
 
+def crowded(grid, chance):
+    """A photograph of 12 megapixels: 500 frames with a word each, and among them a symbol of 2 pixels a module."""
+    rows = [bytearray([230]) * 4000 for _ in range(3000)]
+    for _ in range(500):
+        wide, high, thick = chance.randint(30, 200), chance.randint(30, 200), chance.randint(2, 6)
+        down, right = chance.randrange(2800), chance.randrange(3800)
+        draw(rows, [[20] * wide] * high, down, right)
+        draw(rows, [[230] * (wide - 2 * thick)] * (high - 2 * thick), down + thick, right + thick)
+        word = [[chance.choice((20, 230)) if column % 4 else 230 for column in range(12)] for _ in range(6)]
+        draw(rows, [[level for level in row for _ in range(2)] for row in word for _ in range(2)], down + 8, right + 8)
+    draw(rows, pixels_of(grid, 2, 2), 1700, 2500)
+    return rows
+
+
 class Efforts:
     def test_blanked(self):
         """Once all symbols of a sheet have been read, little is left to be searched, of their texture or outlines."""
@@ -49,19 +64,18 @@ class Efforts:
         self.row("60 symbols with text and 5 % of the work", Searches(self).of(rows, 61, 5), (said(messages), "whole"))
 
     def test_large_work(self):
-        """A large picture, which takes long to open, is allowed less: of 12 megapixels, over six times that of 2."""
+        """A large picture, which takes long to open, is allowed less, but for a photograph, which is allowed more."""
         searches = Searches(self)
-        shares = []
-        for wide, high in ((2000, 1000), (4000, 3000)):
-            rows, least, most = [bytes([230]) * wide] * high, 1, 1000
-            while least < most:
-                percent = (least + most) // 2
-                is_enough = searches.of(rows, 1, percent)[1] == "whole"
-                least, most = (least, percent) if is_enough else (percent + 1, most)
-            shares.append(least)
-        small, large = shares
-        self.row(f"a picture of 12 megapixels takes {large} % of its usual work, one of 2 {small} %",
-                 6.5 * small < large < 7.6 * small, True)
+        shares = [bisect_left(range(1000), True, 1, key=lambda percent: searches.of(rows, 1, percent)[1] == "whole")
+                  for rows in ([b"\xe6" * 2000] * 1000, [b"\xe6" * 4000] * 2190, [b"\xe6" * 4000] * 3000)]
+        small, sheet, photograph = shares
+        self.row(f"of their usual work 2, 8.8 and 12 megapixels take {shares} %",
+                 (4.6 * small < sheet < 5.2 * small, 0.9 * sheet < photograph < 1.06 * sheet), (True, True))
+
+    def test_small(self):
+        """A small symbol is found among much else in a photograph."""
+        found, _ = Searches(self).of(crowded(grid_of("A small one"), random.Random(0)), 1)
+        self.row("of 2 pixels a module in 12 megapixels", found, said(["A small one"]))
 
     def test_neighbours(self):
         """Symbols that only their neighbours show are found before much else is tried, dark on light or not."""
