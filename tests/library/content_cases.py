@@ -20,28 +20,24 @@ MOST_NUMBER = 999_999
 # Data codewords, and what they say in the wide extent: items, marks, a head, and the identifier's digit.
 WORKED = [
     ((241, 27, 66, 67, 68, 129), b"ABC", [(26, 0)], None, 4), ((241, 128, 74, 66, 129), b"A", [(200, 0)], None, 4),
-    ((241, 192, 15, 62, 66, 129), b"A", [(20000, 0)], None, 4),
-    ((66, 241, 10, 241, 27, 67), b"AB", [(9, 1), (26, 1)], None, 4), ((131, 241, 4, 132), b"0102", [(3, 2)], None, 4),
-    ((241, 127, 66), b"A", [(126, 0)], None, 4), ((241, 128, 1, 66), b"A", [(127, 0)], None, 4),
-    ((241, 191, 254, 66), b"A", [(16382, 0)], None, 4), ((241, 192, 1, 1, 66), b"A", [(16383, 0)], None, 4),
-    ((241, 207, 63, 129), b"", [(999999, 0)], None, 4), ((233, 28, 1, 2, 66, 129), b"A", [], (2, 5, 1, 2), 1),
-    ((233, 31, 1, 1, 66), b"A", [], (2, 2, 1, 1), 1), ((233, 241, 254, 254, 66), b"A", [], (16, 16, 254, 254), 1),
-    ((234, 142, 164, 186, 129), b"123456", [], PROGRAMMING, 1),
-    ((230, 254, 237, 66, 67, 129), MACRO_6 + b"AB" + TRAILER, [], None, 1),
-    ((230, 254, 238, 254, 236, 129), MACRO_5 + TRAILER, [], None, 1),
-    ((236, 241, 27, 66, 129), MACRO_5 + b"A" + TRAILER, [(26, 7)], None, 4),
-    ((232, 241, 27, 66), [FNC1, 65], [(26, 1)], None, 5), ((66, 232, 67), [65, FNC1, 66], [], None, 3),
-    ((233, 15, 1, 1, 232, 66), [FNC1, 65], [], (1, 2, 1, 1), 2),
-    ((66, 67, 240, 241, 4, 39, 192, 67), b"AB<PP'62B", [], None, 1),
-    ((230, 87, 199, 254, 241, 27, 66), b"AA", [(26, 1)], None, 4), ((50, 51, 232), [49, 50, FNC1], [], None, 1),
-    ((142, 232), [49, 50, FNC1], [], None, 3), ((230, 10, 121), [FNC1], [], None, 1), ((232,), [FNC1], [], None, 2),
-    ((66, 230, 10, 121, 129), [65, FNC1], [], None, 1),
-    ((236, 232, 66), [*MACRO_5, FNC1, 65, *TRAILER], [], None, 3), ((129, 232), b"", [], None, 1),
-    ((234, 232, 66, 241, 27), [FNC1, 65], [(26, 2)], PROGRAMMING, 5), ((50, 241, 4, 51), b"12", [(3, 1)], None, 4),
-    ((241, 27, 66, 67, 68), b"ABC", [(26, 0)], None, 4), ((233, 28, 1, 2, 66), b"A", [], (2, 5, 1, 2), 1),
-    ((241, 27, 66, 129, 70), b"A", [(26, 0)], None, 4), ((241, 27, 231, 88, 45), b"A", [(26, 0)], None, 4),
-    ((234, 239, 254, 129, 70), b"", [], PROGRAMMING, 1), ((234, 230, 232), [FNC1], [], PROGRAMMING, 3),
-    ((240, 232, 66), [FNC1, 65], [], None, 3),
+    ((241, 192, 15, 62, 66, 129), b"A", [(20000, 0)], None, 4), ((131, 241, 4, 132), b"0102", [(3, 2)], None, 4),
+    ((66, 241, 10, 241, 27, 67), b"AB", [(9, 1), (26, 1)], None, 4), ((241, 127, 66), b"A", [(126, 0)], None, 4),
+    ((241, 128, 1, 66), b"A", [(127, 0)], None, 4), ((241, 191, 254, 66), b"A", [(16382, 0)], None, 4),
+    ((241, 192, 1, 1, 66), b"A", [(16383, 0)], None, 4), ((241, 207, 63, 129), b"", [(999999, 0)], None, 4),
+    ((233, 28, 1, 2, 66, 129), b"A", [], (2, 5, 1, 2), 1), ((233, 31, 1, 1, 66), b"A", [], (2, 2, 1, 1), 1),
+    ((233, 241, 254, 254, 66), b"A", [], (16, 16, 254, 254), 1), ((232, 241, 27, 66), [FNC1, 65], [(26, 1)], None, 5),
+    ((234, 142, 164, 186, 129), b"123456", [], PROGRAMMING, 1), ((66, 232, 67), [65, FNC1, 66], [], None, 3),
+    ((230, 254, 237, 66, 67, 129), MACRO_6 + b"AB" + TRAILER, [], None, 1), ((142, 232), [49, 50, FNC1], [], None, 3),
+    ((230, 254, 238, 254, 236, 129), MACRO_5 + TRAILER, [], None, 1), ((50, 51, 232), [49, 50, FNC1], [], None, 1),
+    ((236, 241, 27, 66, 129), MACRO_5 + b"A" + TRAILER, [(26, 7)], None, 4), ((230, 10, 121), [FNC1], [], None, 1),
+    ((233, 15, 1, 1, 232, 66), [FNC1, 65], [], (1, 2, 1, 1), 2), ((232,), [FNC1], [], None, 2),
+    ((66, 67, 240, 241, 4, 39, 192, 67), b"AB<PP'62B", [], None, 1), ((66, 230, 10, 121, 129), [65, FNC1], [], None, 1),
+    ((230, 87, 199, 254, 241, 27, 66), b"AA", [(26, 1)], None, 4), ((129, 232), b"", [], None, 1),
+    ((236, 232, 66), [*MACRO_5, FNC1, 65, *TRAILER], [], None, 3), ((50, 241, 4, 51), b"12", [(3, 1)], None, 4),
+    ((234, 232, 66, 241, 27), [FNC1, 65], [(26, 2)], PROGRAMMING, 5), ((233, 28, 1, 2, 66), b"A", [], (2, 5, 1, 2), 1),
+    ((241, 27, 66, 67, 68), b"ABC", [(26, 0)], None, 4), ((241, 27, 66, 129, 70), b"A", [(26, 0)], None, 4),
+    ((241, 27, 231, 88, 45), b"A", [(26, 0)], None, 4), ((234, 239, 254, 129, 70), b"", [], PROGRAMMING, 1),
+    ((234, 230, 232), [FNC1], [], PROGRAMMING, 3), ((240, 232, 66), [FNC1, 65], [], None, 3),
 ]
 # Those that say nothing in the wide extent, with code, value and place.
 REFUSED = [
@@ -250,24 +246,17 @@ def marks():
 
 def orders():
     """Of several faults of writing the first in their order is told."""
-    bad_head, bad_items, bad_marks = (1, 0, 0, 0, 0), (65, 300), ((26, 9),)
-    head, items, long = (1, 2, 1, 1), (65, 66), (65,) * (MOST_DATA + 1)
+    bad_head, bad_marks, head, items, big = (1, 0, 0, 0, 0), ((26, 9),), (1, 2, 1, 1), (65, 66), (65,) * (MOST_DATA + 1)
+    worse, bad = (Content((65, 300), bad_marks, it) for it in (bad_head, head))
     for said, form, shape, extent, wanted in (
-            (Content(bad_items, bad_marks, bad_head), 3, 9, 9, no(16, 3)),
-            (Content(bad_items, bad_marks, bad_head), SMALLEST, 9, 9, no(17, 9)),
-            (Content(bad_items, bad_marks, bad_head), SMALLEST, 9, 65535, no(17, 65535)),
-            (Content(bad_items, bad_marks, bad_head), 0, 9, 9, no(18, 9)),
-            (Content(bad_items, bad_marks, bad_head), SMALLEST, 9, WIDE, no(18, 9)),
-            (Content(bad_items, bad_marks, bad_head), SMALLEST, ANY, WIDE, no(23)),
-            (Content(bad_items, bad_marks, bad_head), 1, ONE, 9, no(23)),
-            (Content(bad_items, bad_marks, head), 0, ONE, 9, no(15, 300, 1)),
-            (Content(bad_items, bad_marks, head), SMALLEST, ONE, USUAL, no(15, 300, 1)),
+            (worse, 3, 9, 9, no(16, 3)), (worse, SMALLEST, 9, 9, no(17, 9)), (worse, SMALLEST, 9, 65535, no(17, 65535)),
+            (worse, 0, 9, 9, no(18, 9)), (worse, SMALLEST, 9, WIDE, no(18, 9)), (worse, SMALLEST, ANY, WIDE, no(23)),
+            (worse, 1, ONE, 9, no(23)), (bad, 0, ONE, 9, no(15, 300, 1)), (bad, SMALLEST, ONE, USUAL, no(15, 300, 1)),
             (Content(items, bad_marks, head), 0, ONE, 9, no(22, 0, 0)),
             (Content(items, bad_marks, head), SMALLEST, ONE, USUAL, no(22, 0, 0)),
-            (Content(items, ((26, 1),), head), 0, ONE, 9, no(14)),
+            (Content(items, ((26, 1),), head), 0, ONE, 9, no(14)), (Content(big, ((26, 1),), head), 0, ANY, 9, no(14)),
             (Content(items, ((26, 1),)), SMALLEST, ANY, USUAL, no(14)),
-            (Content(items, (), head), SMALLEST, ANY, USUAL, no(14)),
-            (Content(long, ((26, 1),), head), 0, ANY, 9, no(14))):
+            (Content(items, (), head), SMALLEST, ANY, USUAL, no(14))):
         yield write(said, form, shape, (9, 9), extent), wanted
     for form, shape, extent, head, wanted in ((3, 9, 9, bad_head, no(16, 3)), (SMALLEST, 9, 2, bad_head, no(17, 2)),
                                               (1, 9, 2, bad_head, no(18, 9)), (SMALLEST, 3, 1, bad_head, no(23)),

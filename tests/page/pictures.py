@@ -108,9 +108,8 @@ def pictures():
     expect("what is said of a picture stays, whatever is looked at in a slot", text_of("picture-hint"), said)
     whole = png(rows, 8, 3)
     for name, body, why in (
-        ("noise.png", noise(23, 5), no_symbol),
+        ("noise.png", noise(23, 5), no_symbol), ("square.png", png(["1" * 10] * 10, 8, 3), no_symbol),
         ("white.png", png(["0" * 10] * 10, 2, 2), "The picture has only one colour."),
-        ("square.png", png(["1" * 10] * 10, 8, 3), no_symbol),
         ("text.png", b"no picture", "The file can’t be opened as a picture."),
         ("half.png", whole[: len(whole) // 2], "The file is cut off: the end of the picture is missing."),
     ):

@@ -167,11 +167,10 @@ class Messages(PackageCase):
             (("--eci", "200", "\u00e9"), "the charset ascii has no '\u00e9'"),
             (("--eci", "3", "\u65e5"), "the charset iso-8859-1 has no '\u65e5'"),
             (("--eci", "20", "A\u00a5"), "the charset shift_jis has no '\u00a5'"),
-            (("--charset", "shift_jis", "A\u00a5"), "the charset shift_jis has no '\u00a5'"),
-            (("--escapes", "--charset", "shift_jis", "A\u00a5"), "the charset shift_jis has no '\u00a5'"),
-            (("--basic", "--eci", "3", "A"), "--basic is for know neither ECI"),
-            (("--basic", "--form", "ascii", "--programming", "A"), "--basic is for know neither ECI"),
-            (("--basic", "--escapes", r"\E{3}A"), "--basic is for know neither ECI"),
+            *((("--charset", "shift_jis", "A\u00a5", *words), "the charset shift_jis has no '\u00a5'")
+              for words in ((), ("--escapes",))),
+            *((("--basic", *words), "--basic is for know neither ECI") for words in (
+                ("--eci", "3", "A"), ("--form", "ascii", "--programming", "A"), ("--escapes", r"\E{3}A"))),
             (("--programming", "--escapes", r"\PA"), "it begins with a head"),
             (("--escapes", r"A\PB"), "followed by 'P'"), (("--escapes", r"\E{1000000}A"), "followed by 'E'"),
             (("--escapes", r"\A{6/5}A"), "a part of 2 to 16 is wanted"),
