@@ -184,7 +184,7 @@ KINDS = {
     "scan": changed(faint=(10, 55), pixels=[2, 2.25, 2.5, 3], perspective=0, blur=(0.2, 0.4), noise=(0, 1.5)),
     "screen": changed(phone, lit=lit_pixels, beside=True),
     "several": changed(perspective=0.08, blur=(0.1, 0.45), noise=(5, 30)),
-    "small12": changed(pixels=(2.3, 3), blur=(0, 0.1), noise=(0, 3), formats=[(".jpg",)]),
+    "small12": changed(pixels=(2, 3), blur=(0, 0.1), noise=(0, 3), formats=[(".jpg",)]),
     "steep": changed(rolled=tilted, perspective=0.02, pixels=[5, 6, 8, 10]),
     "thermal": changed(faint=(20, 56), drawn=by_heat, lit=partial(faded, left=0.7, least=0.35), blur=(0.1, 0.3),
                        noise=(0, 2)),
