@@ -26,9 +26,9 @@ static int64_t work_for(int64_t megapixels, uint16_t effort) {
     return limit_from_now(ECC200_SAMPLE_ANY_TIME, effort, megapixels * 1000000).allowed;
 }
 
-/* A large picture, which takes long to open, is allowed less than a small one, but enough to look at all of it. */
+/* A sheet, which takes long to open, is allowed less than a small picture; a photograph more, enough for all of it. */
 static int is_work_right(void) {
-    return work_for(12, 0) < work_for(1, 0) - 50000000 && work_for(12, 0) + 12 * 8000000 < 400000000 &&
+    return work_for(8, 0) < work_for(1, 0) - 30000000 && work_for(8, 0) + 100000000 < work_for(12, 0) &&
            work_for(50, 0) >= 50 * 8000000 && work_for(12, 200) == 2 * work_for(12, 100) &&
            work_for(12, 0) == work_for(12, 100) && work_for(1, ECC200_SAMPLE_ANY_EFFORT) > INT64_MAX / 4;
 }
