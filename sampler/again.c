@@ -1,6 +1,7 @@
 /* A second sight: what a picture can be made into shows symbols that it doesn't show itself. */
 #include <string.h>
 
+#include "kind.h"
 #include "remake.h"
 #include "search.h"
 
@@ -65,33 +66,6 @@ static bool compare_doubled(const struct plane *picture, struct limit *limit, st
 static bool join_dots(const struct plane *picture, struct limit *limit, struct plane *out, bool *is_alike) {
     *is_alike = false;
     return plane_join_dots(picture, limit, out);
-}
-
-/* Whether a picture is made of two levels of brightness, as drawings are whose dots are single pixels. */
-static bool is_drawn(const struct plane *picture) {
-    int least = *pixel_of(picture, 0, 0), most = least;
-    bool is_of_two = true;
-    for (int y = 0; y < picture->height && is_of_two; y++)
-        for (int x = 0; x < picture->width && is_of_two; x++) {
-            int here = *pixel_of(picture, x, y);
-            is_of_two = here == least || here == most || least == most;
-            least = here < least ? here : least, most = here > most ? here : most;
-        }
-    return is_of_two;
-}
-
-/* Whether a small part of a picture is much lighter than most of it, as gleams are; by some of its rows. */
-static bool is_gleaming(const struct plane *picture) {
-    enum { ROWS_APART = 4, LEAST = 50, MOST = 5 }; /* of the part: one of so many pixels */
-    int often[256] = {0}, count = 0, usual = 0, lighter = 0;
-    for (int y = 0; y < picture->height; y += ROWS_APART, count += picture->width)
-        for (int x = 0; x < picture->width; x++)
-            often[*pixel_of(picture, x, y)]++;
-    for (int passed = often[0]; passed < count / 4 * 3; passed += often[usual])
-        usual++;
-    for (int level = usual + usual / 5 + 1; level < 256; level++)
-        lighter += often[level];
-    return lighter > count / LEAST && lighter < count / MOST;
 }
 
 /* What pictures are made into, and whether that is alike but for what is faint; how many pixels of it are one of the

@@ -7,7 +7,7 @@
 #include "net.h"
 #include "search.h"
 
-enum { BORDERS = 2, FOR_NETS = 50 };      /* percent of the usual work */
+enum { BORDERS = 2, FOR_NETS = 50, FOR_NETS_IN_TEXT = 5 }; /* percent of the usual work */
 static const double LEAST_OF_SCORE = 0.65; /* of the score of a border without a fault */
 
 struct grown {
@@ -40,7 +40,7 @@ static void search_net(struct search *search, const struct seed *seed, struct gr
 void search_nets(struct search *search) {
     struct grown *grown = malloc(sizeof *grown);
     search->judge.has_no_memory |= grown == NULL;
-    limit_begin_anew(search->judge.limit, FOR_NETS);
+    limit_begin_anew(search->judge.limit, search->is_text ? FOR_NETS_IN_TEXT : FOR_NETS);
     for (int k = 0; k < search->seeds.count && search->count == 0 && !is_over(search); k++) {
         const struct seed *seed = &search->seeds.items[k];
         const struct plane *grey = &search->sights[0].levels[seed->level];

@@ -41,6 +41,11 @@ static inline void limit_end_part(struct limit *limit) {
     limit->part = limit->left;
 }
 
+/* Allows so many percent of the work from now on. */
+static inline void limit_lower(struct limit *limit, int percent) {
+    limit->allowed = limit->allowed / 100 * percent;
+}
+
 /* Allows more work than before, after a symbol: where one is, there may be a page of them, with words between. */
 static inline void limit_renew(struct limit *limit) {
     enum { AFTER_A_SYMBOL = 6 };

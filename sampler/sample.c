@@ -5,6 +5,7 @@
 #include "ecc200_sample.h"
 #pragma GCC visibility pop
 
+#include "kind.h"
 #include "order.h"
 #include "other.h"
 #include "search.h"
@@ -28,6 +29,7 @@ static enum ecc200_sample_end end_of(const struct search *search) {
 /* Searches a picture of a size that is sampled. `search` is empty, but for its layouts. False if there is no memory. */
 static bool fill(struct search *search, const struct plane *picture, ecc200_sample_search *asked,
                  bool is_refused_only) {
+    enum { OF_TEXT = 83 }; /* percent of the usual work: it shows no more for all of it */
     struct limit limit =
         limit_from_now(asked->milliseconds, asked->effort, (int64_t)picture->width * picture->height);
     struct judge *judge = &search->judge;
@@ -39,6 +41,9 @@ static bool fill(struct search *search, const struct plane *picture, ecc200_samp
         judge->least_side = asked->least_side, judge->margin = asked->margin;
         judge->places = &search->places, judge->limit = &limit, judge->trial = trial;
         judge->unread.is_refused_only = is_refused_only;
+        search->is_text = is_text(picture);
+        if (search->is_text)
+            limit_lower(&limit, OF_TEXT);
         search_picture(search, picture, AS_IT_IS, false);
         search_anew(search, picture);
         drop_read(&judge->unread, search->found, search->count);

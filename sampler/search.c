@@ -304,19 +304,53 @@ static void search_all_woven(struct search *search) {
     search_places(search, &search->judge.gleaming_places, judge_gleaming);
 }
 
-/* What shows a symbol as it is: first by solid borders beside which it looks like one, dark on light; and then light on
- * dark, and by lattices. */
-static void search_clearly(struct search *search) {
-    struct sight *plain = &search->sights[0], *inverted = &search->sights[1];
-    search_levels(search, plain, search_lively);
-    search_levels(search, plain, search_joined);
+/* By solid borders beside which it looks like a symbol, dark on light. */
+static void search_dark(struct search *search) {
+    search_levels(search, &search->sights[0], search_lively);
+    search_levels(search, &search->sights[0], search_joined);
     search_rows(search);
+}
+
+/* The same, light on dark. */
+static void search_light(struct search *search) {
+    make_inverted(search);
+    search_levels(search, &search->sights[1], search_lively);
+    search_levels(search, &search->sights[1], search_joined);
+    search_rows(search);
+}
+
+/* What shows a symbol as it is: first by solid borders, dark on light; and then light on dark, and by lattices. */
+static void search_clearly(struct search *search) {
+    search_dark(search);
     if (is_over(search))
         return;
-    make_inverted(search);
-    search_levels(search, inverted, search_lively);
-    search_levels(search, inverted, search_joined);
-    search_rows(search);
+    search_light(search);
+    search_all_woven(search);
+}
+
+/* Allows so many percent of the work for another way to look at text, and half of what is left of the one before, while
+ * nothing has been found. */
+static void begin_way(struct search *search, int percent) {
+    struct limit *limit = search->judge.limit;
+    int64_t left = limit->left > 0 ? limit->left : 0;
+    if (search->count > 0)
+        return;
+    limit_begin_anew(limit, percent);
+    limit_spend(limit, -left / 2);
+}
+
+/* The same of a page of text, whose letters would take all work for dark borders: so each way has its own. Lattices, to
+ * which letters look like modules, come last. */
+static void search_text(struct search *search) {
+    enum { DARK = 83, LIGHT = 27, REST = 9 }; /* percent */
+    limit_begin_anew(search->judge.limit, DARK);
+    search_dark(search);
+    begin_way(search, LIGHT);
+    if (is_over(search))
+        return;
+    search_light(search);
+    begin_way(search, REST);
+    search_levels(search, &search->sights[0], search_calm);
     search_all_woven(search);
 }
 
@@ -324,7 +358,8 @@ static void search_clearly(struct search *search) {
  * then for dots, which take more; nets have work of their own. */
 static void search_deeply(struct search *search) {
     struct sight *plain = &search->sights[0], *inverted = &search->sights[1];
-    search_levels(search, plain, search_calm);
+    if (!search->is_text)
+        search_levels(search, plain, search_calm);
     search_levels(search, inverted, search_calm);
     search_levels(search, plain, search_still);
     search_levels(search, inverted, search_still);
@@ -346,8 +381,12 @@ void search_picture(struct search *search, const struct plane *picture, enum loo
     if (look == DULL) { /* gleams cut borders into pieces */
         make_inverted(search);
         search_all_woven(search);
-    } else
+    } else if (!search->is_text)
         search_clearly(search);
+    else if (look == AS_IT_IS)
+        search_text(search);
+    else
+        search_dark(search);
     if (look == AS_IT_IS && !is_over(search))
         search_deeply(search);
     else if (look == REMADE_FOR_NETS)
