@@ -56,9 +56,13 @@ static void read_pass(struct reading *reading, struct pass pass) {
     int samples = png_get_channels(reading->png, reading->info);
     const struct picture *picture = &reading->picture;
     for (size_t y = pass.top; y < picture->height && pass.left < picture->width; y += pass.down) {
-        png_read_row(reading->png, reading->row, NULL);
         const uint8_t *from = reading->row;
         uint8_t *to = picture->luminance + y * picture->width;
+        if (samples == 1 && pass.across == 1) {
+            png_read_row(reading->png, to, NULL);
+            continue;
+        }
+        png_read_row(reading->png, reading->row, NULL);
         for (size_t x = pass.left; x < picture->width; x += pass.across, from += samples)
             to[x] = luminance_of(from, samples);
     }
