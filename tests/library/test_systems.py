@@ -132,7 +132,6 @@ def target(triple):
         kind.target = targets.TARGETS[triple]
         reason = "another library is taken" if places.OTHER_LIBRARY else lacking(kind.target)
         return unittest.skip(reason)(kind) if reason else needs.library(kind)
-
     return marked
 
 

@@ -24,7 +24,6 @@ def in_pictures():
         clip = {"x": 0, "y": begin, "width": width, "height": top + height + 16 - begin, "scale": 1}
         taken = on.page.execute_cdp_cmd("Page.captureScreenshot", {"captureBeyondViewport": True, "clip": clip})
         (on.shots / name).write_bytes(base64.b64decode(taken["data"]))
-
     on.page.set_window_size(width, 1500)
     time.sleep(0.5)
     on.page.refresh()

@@ -91,8 +91,7 @@ USE_OF_TEXT = '<use href="#t"/>'
 
 
 def drawings():
-    """Drawings whose elements are many, as often as they are used, are refused by that; others are read, however they
-    draw a symbol."""
+    """Drawings whose elements are many, as often as they are used, are refused by that; others are read."""
     push("tab-read")
     small, large = written("123456"), written("0" * 1632)
     dots = "".join(f'<use href="#m" x="{c}" y="{r}"/>' for r, row in enumerate(large.split("\n")) for c,
@@ -213,8 +212,7 @@ SLOW = """
 
 
 def dropped_on_the_sheet():
-    """Text and files of text go where they are dropped; a file that is still being read doesn't take the place of what
-    is entered meanwhile."""
+    """Text and files go where they are dropped; a file still being read doesn't displace what is entered."""
     write("123456")
     lines = lambda: value_of("messages")
     run("document.getElementById('messages').value = ''")
@@ -246,8 +244,7 @@ def dropped_on_the_sheet():
 
 
 def low_contrast():
-    """A symbol whose greys differ little is read; what isn't is said by how much they differ, and only one colour is
-    called that."""
+    """A symbol whose greys differ little is read; what isn't is said by that, and only one colour is called so."""
     push("tab-read")
     rows = written("faint").split("\n")
     for light, dark in ((200, 180), (130, 124), (255, 251)):

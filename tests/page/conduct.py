@@ -80,7 +80,6 @@ def a_picture_does_not_win():
         soon(f"meanwhile {verdict_then[1]}", verdict, verdict_then)
         run("gates.pop()()")
         settle()
-
     meanwhile("document.getElementById('example-c40').click()", ("Read", "Every answer is proved."))
     expect("a late picture", (verdict(), "given up" in text_of("picture-hint")),
            (("Read", "Every answer is proved."), True))

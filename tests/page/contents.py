@@ -100,8 +100,7 @@ def texts_of_all_scripts():
 
 
 def charsets():
-    """Bytes behind an ECI are shown as text in its charset, and named so; what is none, or has control characters, as
-    it is spelled."""
+    """Bytes behind an ECI are named and shown as text in its charset; what is none, or has controls, as spelled."""
     marked = [row for row in corpus.rows("charsets") if "\\E" in row[0] and "\\F" not in row[0]]
     with unseen():
         for line, charset, *spelled in marked:

@@ -133,7 +133,6 @@ def touched():
         place = box("symbol")
         return {"x": place["left"] + (cell % 10 + QUIET + 0.5) * place["width"] / 14,
                 "y": place["top"] + (cell // 10 + QUIET + 0.5) * place["width"] / 14}
-
     turned_over = lambda: changed(written("123456"), grid())
 
     def finger(kind, *points):
@@ -153,7 +152,6 @@ def touched():
         for apart in range(28, 100, 8):
             finger("touchMove", *fingers(apart))
         finger("touchEnd")
-
     tried_until(lambda: touch(33), turned_over)
     settle()
     expect("a tap", turned_over(), [33])

@@ -97,10 +97,8 @@ def pasted_pictures():
     """A picture on the clipboard is pasted: in the message, in no field, and in a slot of the comparison."""
 
     def copy(message):
-        expect(f"{message} on the clipboard",
-               on.page.execute_async_script(COPY_PICTURE,
-                                            base64.b64encode(png(written(message).split("\n"), 3, 2)).decode()), "")
-
+        expect(f"{message} on the clipboard", on.page.execute_async_script(COPY_PICTURE,
+               base64.b64encode(png(written(message).split("\n"), 3, 2)).decode()), "")
     paste = (Keys.CONTROL, "v", Keys.NULL)
     write("123456")
     copy("pasted")

@@ -111,8 +111,7 @@ RECTANGLES = ["one", "Rectangle 2", "3333333333", "rectangle"]
 
 
 def on_labels():
-    """On each stock size each symbol stands in the middle of its label, has its size and is what the program writes;
-    and so do rectangles."""
+    """On each stock size each symbol, rectangles too, stands in its label's middle, as large and as written."""
     begin()
     for name, labels, shape in (*((name, labels, "square") for name, labels in STOCK.items()),
                                 ("50x30", STOCK["50x30"], "rectangle")):
@@ -384,8 +383,7 @@ LABELS = """
 
 
 def on_one_label():
-    """On a label that is chosen a symbol and its text are shown where they will be, or why they don't fit; and the text
-    is the same on paper."""
+    """On a chosen label a symbol and its text are shown as they will be on paper, or why they don't fit."""
     messages = ["one", WIDE]
     paper_is("a4", "0.4")
     choose("stock", "38x25")
@@ -443,8 +441,7 @@ DOTS = 600 / 25.4  # of a millimetre
 
 
 def from_first(runs, right=1.0, down=-1.0):
-    """Runs, each the left end, the lower edge and the length, as numbers of dots to the right and down from the first
-    of them."""
+    """Runs: left end, lower edge and length, as numbers of dots to the right and down from the first of them."""
     numbers = [[float(x) * right, float(y) * down, float(length) * right] for x, y, length in runs]
     return [[round(x - numbers[0][0]), round(y - numbers[0][1]), round(length)] for x, y, length in numbers]
 
@@ -463,8 +460,7 @@ def dots_of_svg(drawing):
 
 
 def saved_as_shown():
-    """What is saved of labels is what is shown of them, by each format; each drawing is XML; and there are as many
-    labels as rows want."""
+    """What is saved of labels is what is shown, in each format, drawings as XML, and as many as rows want."""
     begin()
     push("kind-typed", "profile-2")
     for name, kind, text, stock, texts in SAVED:

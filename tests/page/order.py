@@ -144,9 +144,8 @@ ALL, TELL = "everything undone", "all damage marked as doubtful"
 
 
 class Modelled:
-    """What one pane must come to, if each act is done to what stands there when it is done. A step is the module that
-    is turned over, None for one that the page chooses, a module in a list that is marked as doubtful or no longer so,
-    ALL, or TELL."""
+    """What one pane must come to, if each act is done to what stands there then. A step is the module that is turned
+    over, None for one that the page chooses, one in a list that is marked as doubtful or no longer so, ALL, or TELL."""
 
     def __init__(self):
         self.original, self.steps, self.undone = None, [], []
@@ -194,8 +193,7 @@ class Modelled:
 
 
 def differs(end, shown_there):
-    """How a pane, its states from the first to the last that can be redone, differs from what it must have come to;
-    empty if it doesn't."""
+    """How a pane, its states from first to last that can be redone, differs from what it must be; or nothing."""
     (original, steps, place), (past, now, future) = end, shown_there
     states = [*past, now, *reversed(future)]
     if (len(past), len(states)) != (place, len(steps) + 1):
@@ -274,8 +272,7 @@ class Generator:
         return {"kind": "push", "id": "brush-doubt" if self.is_doubting else "brush-turn"}
 
     def tap(self):
-        """Taps on a module of the upper border: none that a button damages. Only where one learns it is turned over, or
-        marked."""
+        """Taps on a module of the upper border, which no button damages, turn it over, or mark it, in lessons."""
         across, here = self.across(), self.panes[self.here]
         if here.original is None:
             return {"kind": "tap", "across": across, "down": 0.15}
@@ -387,7 +384,6 @@ def is_linked(now, ends, size):
             at += int(gap, 36) + 1
             found.append(at)
         return found
-
     held = (linked["message"], linked.get("size", "square"), places("damage"), places("doubtful"))
     return held == (now["field"], size, damage, doubts)
 

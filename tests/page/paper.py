@@ -9,8 +9,7 @@ POINT = 25.4 / 72  # millimetres
 
 
 def printed():
-    """Prints to a PDF as the browser does: the millimetres of each page, and of the dark modules on it from the left to
-    the right."""
+    """Prints to a PDF as the browser does: millimetres of each page, and of its dark modules from left to right."""
     body = base64.b64decode(on.page.execute_cdp_cmd("Page.printToPDF", {"preferCSSPageSize": True})["data"])
     boxes = [[round(float(x) * POINT, 1) for x in box.split()[2:]] for box in re.findall(rb"/MediaBox\s*\[([^\]]*)\]",
                                                                                          body)]

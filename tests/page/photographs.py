@@ -1,5 +1,4 @@
-"""Photographs: the share of the set of bench/photographs that the page reads, beside what dmtxread reads of it; and the
-camera."""
+"""Photographs: the share of bench/photographs that the page reads, and that dmtxread reads; and the camera."""
 import base64
 import json
 import pathlib
@@ -148,7 +147,6 @@ def camera_ends():
         allow()
         wait_for(lambda: is_seen("viewfinder"))
         expect("the camera is on", tracks(), ["live"])
-
     run("const button = document.getElementById('camera'); button.click(); button.click()")
     allow()
     wait_for(lambda: is_seen("viewfinder"))

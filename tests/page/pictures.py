@@ -91,9 +91,8 @@ def pictures():
         agree(f"picture {name}")
         how = WAYS[stand]
         side = text.index("\n")
-        expect(f"picture {name}: said", said,
-                     f"{name}: {side} × {side}. "
-                     + (f"The symbol is {how}, and shown upright." if how else "Read as it stands."))
+        expect(f"picture {name}: said", said, f"{name}: {side} × {side}. "
+               + (f"The symbol is {how}, and shown upright." if how else "Read as it stands."))
     rows = written("123456").split("\n")
     spoilt = [rows[0], *(row[0] + row[1:9].translate(str.maketrans("01", "10")) + row[9] for row in rows[1:5]),
               *rows[5:]]

@@ -65,8 +65,7 @@ def beside_others():
 
 
 def of_many_pixels():
-    """A picture of 48 million pixels, as phones take them, is read where it is outlined; one of 400 million is named
-    before it is decoded."""
+    """A picture of 48 million pixels is read where it is outlined; one of 400 million is named undecoded."""
     push("tab-read")
     opened("phone.png", laid([b"\xe1" * 8000] * 6000, written("of a phone").split("\n"), 24, 4000, 3000))
     soon("48 million pixels", lambda: shown()["says"], "of a phone")

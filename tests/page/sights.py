@@ -176,8 +176,7 @@ def found_in_tables():
 
 
 def compared_in_pictures():
-    """Of several symbols in a picture it is asked which one is compared; and where FNC1 is the difference of two, it is
-    said."""
+    """Of several symbols in a picture it is asked which one is compared; and a difference of FNC1 is said."""
     push("tab-read")
     unfold("comparison")
     messages = [f"label {k}" for k in range(6)]

@@ -56,8 +56,7 @@ def digits(count_of_them):
 
 
 def in_each_size(names, line_of, judge):
-    """Symbols of some sizes, as they are drawn, and what is said of them; damage at the limit, past it and across, by
-    the buttons."""
+    """Symbols of some sizes, as drawn and said; damage at the limit, past it and across, by the buttons."""
     unfold("form")
     for name in names:
         size = table()[name]
@@ -369,8 +368,7 @@ def doubted_when_read():
 
 
 def damaged_at_random():
-    """Symbols of all sizes with modules turned over and others marked, at random, as they are shown and as the library
-    answers."""
+    """Symbols of all sizes, modules turned over and others marked at random, as shown and as the library answers."""
     chance = random.Random(5)
     cases = []
     push("tab-read")

@@ -111,8 +111,7 @@ def is_wide(answer):
 
 
 def told(grids, *more):
-    """What the program's `read` and `check` answer to grids: message and counts, or the refusal. `more` may set the
-    limit."""
+    """What the program's `read` and `check` answer to grids: message and counts, or why not. `more`: the limit."""
     text = "\n".join(grid.rstrip("\n") + "\n" for grid in grids)
     reads, checks = (ran(task, text, *more).splitlines() for task in ("read", "check"))
     answer = lambda read, check: (f"refused {refused(check)}",) * 2 if check.startswith("\\no ") else (read, check)

@@ -47,7 +47,6 @@ def damaged(named, symbol, modules):
 
     def refused(block):
         return {"fault": {"code": BEYOND, "value": 0, "place": block}}
-
     none, last = [0] * blocks, blocks - 1
     one_more = lambda count: [count] * last + [count + 1]
     return [row("as it is written", none, none, read(0, 0)),

@@ -147,7 +147,6 @@ class Batches(PackageCase):
         def met(name, *_):
             three.wait(60)  # fails where fewer than three are searched at a time
             return [sources.Source(name, 1, ecc200.write(b"A"))]
-
         with mock.patch.object(sources, "of_picture", met), contextlib.redirect_stdout(io.StringIO()) as said:
             files = [os.path.join(here, "scans", f"{number:02}.png") for number in range(3)]
             self.row("three at a time", (command.main(["read", "--jobs", "3", *files]), said.getvalue()),

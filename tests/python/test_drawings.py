@@ -122,8 +122,7 @@ class Drawings(PackageCase):
         symbol = ecc200.encode(b"123456")
         self.row("a symbol as text", str(symbol).split(), ["".join(map(str, row)) for row in symbol.rows])
         self.row("equal symbols", (symbol == ecc200.encode(b"123456"), symbol == ecc200.encode(b"12345"),
-                                   len({symbol, ecc200.encode(b"123456")})),
-                 (True, False, 1))
+                                   len({symbol, ecc200.encode(b"123456")})), (True, False, 1))
         self.row("text", ecc200.encode("A"), ecc200.encode(b"A"))
         self.row("decode a grid", ecc200.decode(symbol.rows)[0].data, b"123456")
         self.row("decode no symbol", ecc200.decode([bytes(10)] * 10), [])

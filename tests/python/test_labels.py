@@ -138,7 +138,6 @@ class Labels(PackageCase):
             done = subprocess.run([*WORDS, "write", *words], stdout=subprocess.PIPE, stderr=subprocess.PIPE,
                                   env=environment(), cwd=here, timeout=60)
             return done.returncode, done.stdout
-
         for kind in ("png", "svg", "pdf"):
             self.ecc("write A -o", f"a.{kind}")
             data = places.read(here, f"a.{kind}")

@@ -114,7 +114,6 @@ class Limits(PackageCase):
                 if getattr(first, "file", first) == names[1]:
                     raise MemoryError
                 return usual(first, *rest)
-
             with mock.patch.object(module, name, failing):
                 for jobs in ("1", "2"):
                     got = by_main("read", "--jobs", jobs, *names)

@@ -157,8 +157,7 @@ class Surface(PackageCase):
             said = advice.in_words(ecc200.Refused(8, word, 3), [])
             self.holds(f"codeword {word}", "codeword 3 begins" in said and "only stands in front" in said)
         for code in (7, 9, 10, 11, 12, 13):
-            self.holds(f"code {code} in words",
-                       "codeword 4: a codeword that no encoder writes"
+            self.holds(f"code {code} in words", "codeword 4: a codeword that no encoder writes"
                        in advice.in_words(ecc200.Refused(code, 0, 4), [bytes(10)] * 10))
         self.says("too long", ecc("write", "7" * (2 * ecc200.sizes()[-1].data_codewords + 1)), 1, "",
                   ["longer than any symbol"])

@@ -83,7 +83,6 @@ class Damage:
             def is_off(step, row, column):
                 across, along = (column, wide - 1 - column)[turn % 2], (row, high - 1 - row)[turn // 2]
                 return across / wide + along / high < 0.04 * step
-
             count += self.covered(f"{high} by {wide} without corner {turn}, of", message, pixels_of(grid, SCALE, QUIET),
                                   is_off, behind, range(11, 18, 2))
         self.row("some are read by what is torn off", count > 1, True)

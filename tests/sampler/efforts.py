@@ -6,7 +6,7 @@ from tests.sampler.common import Searches
 from tests.sampler.pictures import grid_of, pixels_of
 from tests.sampler.sheets import labels, sheet_of
 from tests.sampler.sizes import tilted
-from tests.sampler.timing import draw
+from tests.sampler.timing import draw, lettering
 
 
 def said(messages):
@@ -19,9 +19,7 @@ def captioned(chance):
     messages, grids = labels(60, chance)
     rows, apart = sheet_of(grids, 6, 8, 5), 5 * (len(grids[0]) + 8)
     for at in range(60):
-        glyphs = [[chance.choice((20, 230)) if column % 4 else 230 for column in range(24)] for _ in range(6)]
-        text = [[level for level in row for _ in range(2)] for row in glyphs for _ in range(2)]
-        draw(rows, text, 55 + at // 6 * apart + 5 * len(grids[0]) + 10, 55 + at % 6 * apart)
+        draw(rows, lettering(chance, 24), 55 + at // 6 * apart + 5 * len(grids[0]) + 10, 55 + at % 6 * apart)
     return messages, rows
 
 
@@ -41,8 +39,7 @@ def crowded(grid, chance):
         down, right = chance.randrange(2800), chance.randrange(3800)
         draw(rows, [[20] * wide] * high, down, right)
         draw(rows, [[230] * (wide - 2 * thick)] * (high - 2 * thick), down + thick, right + thick)
-        word = [[chance.choice((20, 230)) if column % 4 else 230 for column in range(12)] for _ in range(6)]
-        draw(rows, [[level for level in row for _ in range(2)] for row in word for _ in range(2)], down + 8, right + 8)
+        draw(rows, lettering(chance, 12), down + 8, right + 8)
     draw(rows, pixels_of(grid, 2, 2), 1700, 2500)
     return rows
 
@@ -66,9 +63,9 @@ class Efforts:
     def test_large_work(self):
         """A large picture, which takes long to open, is allowed less, but for a photograph, which is allowed more."""
         searches = Searches(self)
-        shares = [bisect_left(range(1000), True, 1, key=lambda percent: searches.of(rows, 1, percent)[1] == "whole")
-                  for rows in ([b"\xe6" * 2000] * 1000, [b"\xe6" * 4000] * 2190, [b"\xe6" * 4000] * 3000)]
-        small, sheet, photograph = shares
+        small, sheet, photograph = shares = [
+            bisect_left(range(1000), True, 1, key=lambda percent: searches.of(rows, 1, percent)[1] == "whole")
+            for rows in ([b"\xe6" * 2000] * 1000, [b"\xe6" * 4000] * 2190, [b"\xe6" * 4000] * 3000)]
         self.row(f"of their usual work 2, 8.8 and 12 megapixels take {shares} %",
                  (4.6 * small < sheet < 5.2 * small, 0.9 * sheet < photograph < 1.06 * sheet), (True, True))
 

@@ -1,6 +1,5 @@
-/* Tries whether the sampler tells readings apart that differ in what they say, whatever else they share; whether it
- * looks for the margin at each block; what it does where the rules for known damage disagree; and which lattices grow;
- * for tests/sampler. */
+/* Tries whether the sampler tells readings apart by what they say, and looks for the margin at each block; what it does
+ * where rules for known damage disagree; and which lattices grow; for tests/sampler. */
 #define ecc200_read read_anything /* for the file that is tried: defined below */
 #include "judge.c"
 #undef ecc200_read

@@ -222,7 +222,7 @@ class Options:
 
     def test_parts(self):
         """Points far outside of a picture, the usual work, and straight pieces that are joined."""
-        self.part("parts", ("geometry", "limit", "outline"))
+        self.part("parts", ("geometry", "kind", "limit", "outline"))
 
     def test_judged(self):
         """Readings that say the same, and others; margins; and known damage that is read in two ways."""

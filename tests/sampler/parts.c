@@ -1,5 +1,6 @@
 /* Tries what the sampler does with points far outside of a picture, as a projection may give them, how much work it
- * allows itself, and how it fits straight pieces and joins them; for tests/sampler. */
+ * allows itself, what it takes as text, and how it fits straight pieces and joins them; for tests/sampler. */
+#include "kind.h"
 #include "limit.h"
 #include "outline.h"
 #include "plane.h"
@@ -31,6 +32,23 @@ static int is_work_right(void) {
     return work_for(8, 0) < work_for(1, 0) - 30000000 && work_for(8, 0) + 100000000 < work_for(12, 0) &&
            work_for(50, 0) >= 50 * 8000000 && work_for(12, 200) == 2 * work_for(12, 100) &&
            work_for(12, 0) == work_for(12, 100) && work_for(1, ECC200_SAMPLE_ANY_EFFORT) > INT64_MAX / 4;
+}
+
+/* Whether dark lines are taken as text if they are on most of a page in even light, and on no part of it more than half. */
+static int is_text_right(void) {
+    enum { SIDE = 800, ALL = SIDE * SIDE, PAGES = 5 };
+    /* dark rows, of twelve and of all; the level of the others, and by how much it falls; whether that is text */
+    static const int pages[PAGES][5] = {
+        {2, 800, 230, 0, 1}, {5, 800, 230, 0, 0}, {2, 350, 230, 0, 0}, {2, 800, 99, 0, 0}, {2, 800, 230, 90, 0}};
+    static uint8_t pixels[ALL];
+    const struct plane page = {.width = SIDE, .height = SIDE, .stride = SIDE, .pixels = pixels};
+    int right = 0;
+    for (const int *of = *pages; of < *pages + sizeof pages / sizeof *of; of += 5) {
+        for (int at = 0; at < ALL; at++)
+            pixels[at] = at / SIDE % 12 < of[0] && at / SIDE < of[1] ? 20 : (uint8_t)(of[2] - of[3] * at / ALL);
+        right += is_text(&page) == of[4];
+    }
+    return right == PAGES;
 }
 
 /* Whether pieces in a row, so far from the upper left of the picture and among other ones, are joined to one line. */
@@ -89,6 +107,7 @@ int main(void) {
                 return printf("%g, %g\n", at.x, at.y) > 0;
         }
     int is_joined = are_joined(3, 4) && are_joined(1100, 250) && are_joined(600, 150);
-    printf("%s%s%s", is_work_right() ? "" : "work", is_joined ? "" : "joined", are_slanted() ? "" : "slanted");
-    return !is_work_right() || !is_joined || !are_slanted();
+    int is_right = is_work_right() && is_text_right();
+    printf("%s%s%s", is_right ? "" : "work, text", is_joined ? "" : "joined", are_slanted() ? "" : "slanted");
+    return !is_right || !is_joined || !are_slanted();
 }

@@ -122,8 +122,7 @@ class Reading:
                 "P3": f"P3 {wide} {high} 255\n".encode() + b"\n".join(b"%d %d %d" % (it, it, it) for it in flat),
                 "P4": f"P4 {wide} {high}\n".encode()
                 + b"".join(int("".join("01"[bit] for bit in row).ljust(8 * line, "0"), 2).to_bytes(line, "big")
-                           for row in bits), "P5": pgm(rows),
-                "P5 of two bytes": f"P5 {wide} {high} 1000\n".encode()
+                           for row in bits), "P5": pgm(rows), "P5 of two bytes": f"P5 {wide} {high} 1000\n".encode()
                 + b"".join((level * 1000 // 255).to_bytes(2, "big") for level in flat),
                 "P6": f"P6 {wide} {high} 255\n".encode() + b"".join(bytes([level, level, level]) for level in flat)}
         for name, text in made.items():

@@ -3,8 +3,15 @@ import json
 import os
 import random
 
+from tests.sampler.common import Searches
 from tests.sampler.pictures import grid_of, pgm, pixels_of, record, run
 from tests.support import places, work
+
+
+def lettering(chance, columns, rows=6, pixels=2):
+    """What looks like small text."""
+    glyphs = [[chance.choice((20, 230)) if column % 4 else 230 for column in range(columns)] for _ in range(rows)]
+    return [[level for level in row for _ in range(pixels)] for row in glyphs for _ in range(pixels)]
 
 
 def draw(rows, part, down, right):
@@ -22,9 +29,7 @@ def label_of(grids, chance):
         draw(rows, [[230] * (wide - 12)] * (high - 12), down + 6, right + 6)
         draw(rows, pixels_of(grid, 6, 0), down + 30, right + 30)
         for line in range(5):
-            glyphs = [[chance.choice((20, 230)) if column % 4 else 230 for column in range(32)] for _ in range(4)]
-            text = [[level for level in row for _ in range(3)] for row in glyphs for _ in range(3)]
-            draw(rows, text, down + 30 + 20 * line, right + 145)
+            draw(rows, lettering(chance, 32, 4, 3), down + 30 + 20 * line, right + 145)
     return rows
 
 
@@ -113,6 +118,20 @@ class Timing:
         rows = cluttered(wide, high, random.Random(8), 525)
         draw(rows, pixels_of(grid_of("LIGHT"), 12, 2, 230, 20), 300, 500)
         self.says("light on dark among many rectangles", rows, "LIGHT")
+
+    def test_text(self):
+        """A page of text takes less than in other light; and symbols on it are found, dark on light or not."""
+        chance, page, took = random.Random(46), [bytearray([230]) * 1240 for _ in range(1754)], []
+        for at in range(35 * 18):
+            draw(page, lettering(chance, 12, 6, 4), 100 + at // 18 * 44, 100 + at % 18 * 58)
+        for lit in (page, [bytes(it - it * y // 3000 for it in row) for y, row in enumerate(page)]):
+            with work.measured() as taken:
+                self.says("nothing but text", lit, None)
+            took.append(taken.seconds)
+        self.row("less work", took[0] < 0.7 * took[1] or took, True)
+        for ink, ground in ((20, 230), (230, 20)):
+            draw(page, pixels_of(grid_of("ON A PAGE"), 3, 2, ink, ground), 1000, 600)
+            self.row(f"{ink} on {ground}, with little work", Searches(self).of(page, 1, 30)[0], ["none;; ON A PAGE"])
 
     def test_deadline(self):
         """The time binds also what is computed before the search."""
