@@ -41,7 +41,8 @@ static bool fill(struct search *search, const struct plane *picture, ecc200_samp
         judge->least_side = asked->least_side, judge->margin = asked->margin;
         judge->places = &search->places, judge->limit = &limit, judge->trial = trial;
         judge->unread.is_refused_only = is_refused_only;
-        search->is_text = is_text(picture);
+        search->is_text = asked->milliseconds == ECC200_SAMPLE_ANY_TIME &&
+                          asked->effort != ECC200_SAMPLE_ANY_EFFORT && is_text(picture);
         if (search->is_text)
             limit_lower(&limit, OF_TEXT);
         search_picture(search, picture, AS_IT_IS, false);

@@ -43,7 +43,7 @@ struct search {
     int most_steep;         /* of what lattices are looked for in: what is steeper was seen before */
     double bend;            /* of its length: by how much a border may be bent */
     bool is_dull;           /* whether gleams were taken from the picture */
-    bool is_text;           /* whether the picture as it is is a page of text */
+    bool is_text;           /* whether the picture as it is is a page of text, and work is limited */
     struct seeds seeds;     /* of the lattices that were looked for */
 };
 
