@@ -56,7 +56,7 @@ static int sum_of(const int *often, int first, int after) {
 
 bool is_text(const struct plane *picture) {
     enum { LEAST = 500000, LIGHT = 128 };                        /* pixels, a level */
-    enum { NEAR = 12, INK = 4, LEAST_INK = 32, OTHERWISE = 20 }; /* of the ground, a tile, tiles: one of so many parts */
+    enum { NEAR = 12, INK = 4, LEAST_INK = 32, OTHERWISE = 20 }; /* one of so many parts: of the ground, a tile, all */
     int64_t pixels = (int64_t)picture->width * picture->height;
     int middles[LEVELS_OF_GREY] = {0}, inks[LEVELS_OF_GREY] = {0}, count = 0;
     if (pixels < LEAST || pixels > SHEET)

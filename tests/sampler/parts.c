@@ -34,7 +34,7 @@ static int is_work_right(void) {
            work_for(12, 0) == work_for(12, 100) && work_for(1, ECC200_SAMPLE_ANY_EFFORT) > INT64_MAX / 4;
 }
 
-/* Whether dark lines are taken as text if they are on most of a page in even light, and on no part of it more than half. */
+/* Whether dark lines are taken as text if they are on most of a page in even light, on no part of it more than half. */
 static int is_text_right(void) {
     enum { SIDE = 800, ALL = SIDE * SIDE, PAGES = 5 };
     /* dark rows, of twelve and of all; the level of the others, and by how much it falls; whether that is text */
