@@ -31,7 +31,6 @@ def drawn(grid, dark=30, light=230, growth=(0, 0), place=None, scale=SCALE, fine
         seen = [is_dark((column + (a + 0.5) / fine) / scale - QUIET, (row + (b + 0.5) / fine) / scale - QUIET)
                 for a in range(fine) for b in range(fine)]
         return light + (dark - light) * sum(seen) / len(seen)
-
     return [[pixel(column, row) for column in range((wide + 2 * QUIET) * scale)]
             for row in range((high + 2 * QUIET) * scale)]
 
