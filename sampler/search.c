@@ -385,7 +385,7 @@ void search_picture(struct search *search, const struct plane *picture, enum loo
         search_clearly(search);
     else if (look == AS_IT_IS)
         search_text(search);
-    else
+    else /* what is faint among letters */
         search_dark(search);
     if (look == AS_IT_IS && !is_over(search))
         search_deeply(search);
