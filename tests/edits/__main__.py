@@ -3,8 +3,8 @@ refused.
 
     python3 -m tests.edits [--unchanged] [CRATE ..]
 
-With --unchanged each function that has an edit is copied as it is, and has to be proved: so a copy is refused for its
-body, and not for being a copy."""
+With --unchanged each edit is left out of its body, whose goal has to be answered then: so an edit is refused for
+itself, and not for standing in a copy or beside others."""
 import argparse
 import os
 import sys
@@ -21,12 +21,9 @@ def tried(crate, names, are_unchanged):
         edits = [edit for name in names for edit in copies.read_edits(crate, name)]
     except ValueError as problem:
         return [(False, f"{crate}: BAD EDIT: {problem}")]
-    if are_unchanged:
-        results = [(is_well, f"{crate}: {said}") for is_well, said in copies.try_copies(crate, edits)]
-    else:
-        refused, others = copies.try_edits(crate, edits)
-        results = [(is_well, f"{crate}/{name}: {said}") for name, (is_well, said) in refused.items()]
-        results += [(False, f"{crate}: {it}") for it in others]
+    found, others = copies.try_edits(crate, edits, are_unchanged)
+    results = [(is_well, f"{crate}/{name}: {said}") for name, (is_well, said) in found.items()]
+    results += [(False, f"{crate}: refused, though no edit changes it: {it[:200]}") for it in others]
     print(f"{crate}: {len(results)} tried in {time.monotonic() - begun:.0f} s", flush=True)
     return sorted(results, key=lambda it: it[1])
 

@@ -1,15 +1,19 @@
 """Tries the wrong bodies in crates/*/must-fail, those of a crate together: the prover has to refuse each.
 
-`rt must-fail` tries these edits one at a time, over a proof of the whole crate. Here each wrong body stands in a copy
-of the crate as a function of its own, named as the edit is, beside the function whose contract and proof it has, and
-the check is asked for these functions and what they call alone. A method of a trait can't stand beside itself, so its
-wrong body takes its place. Where an edit changes several functions, each one is tried by itself. A function is refused
-where something of its own is, and not only what it calls. Where must-fail/goals.md names a goal, that is its answer, or
-the tactic that the right body needs alone, and no other goal is tried. The crates below are taken as proved last.
+`rt must-fail` tries these edits one at a time, over a proof of the whole crate. Here wrong bodies stand in a copy of
+the crate, each as a function of its own beside the function whose contract and proof it has, and the check is asked for
+these functions alone. A method of a trait can't stand beside itself, so its wrong body takes its place. Where an edit
+changes several functions, each one is tried by itself; edits of one function may share a body, if must-fail/goals.md
+says so. The crates below are taken as proved last.
+
+must-fail/goals.md names the goal whose answer refuses an edit. This answer, or the tactic by which the right body's is
+found, stands in a module below the file of answers. From that file the toolchain takes what goals to make, but it
+imports what isn't there: so no other goal is tried, and no proof is put together. What only a whole check proves, a
+goal over iterators, is left to that.
 
 Nothing else is proved in the copy, since tests/proofs does that: each other function is an endless loop there, and a
 hole stands for its proof and for that of each lemma. The check goes on past it, so that a lemma is taken by what it
-states, and what an edit's function calls by its contract."""
+states, and what a wrong body calls by its contract."""
 import collections
 import functools
 import glob
@@ -30,19 +34,20 @@ use {module}.Statement.{{statement}}
 pub {name}_spec : {{M : Type 1}} → statement M
 {name}_spec = proved_elsewhere
 """
-# A declaration that is refused, behind which the toolchain doesn't run once more to offer answers for open goals.
-REFUSED = "nothing_is_offered"
-NO_OFFERS = f"\n{REFUSED} : ⊥\n{REFUSED} = tt\n"
+# An endless loop behind what the borrow checker doesn't follow, so that nothing of it is checked.
+STUB = "let nowhere: *const u8 = std::ptr::null(); let _it = unsafe { *nowhere }; loop {}"
 # What the toolchain says where a proof names what an edit took away, which says little of the contract.
 TAKEN_AWAY = re.compile(r"has no field|is not in scope|has no `|was not admitted")
 OPENS_FUNCTION = r"( *)(?:pub(?:\(\w+\))? )?(?:const )?(?:extern \"C\" )?fn (\w+)"
 OPENS_IMPL = r"()impl(?:<.*?>)? (?:([\w:]+)(?:<.*>)? for )?(\w+)"
 # What has parameters beside lifetimes: the answers of such a function take them before what is known at the goal.
 IS_GENERIC = r"(?:\bfn \w+|\bimpl)<(?!'\w+(?:, '\w+)*>)"
+PARTED = re.compile(r"\n\n(?=\S)")
 # The answer to a goal that the right body needs none for, and the tactics by which the toolchain finds it there.
-TACTICS = {"": "search rules fits 100", " by grind": "grind (arith, common_steps) steps 400000"}
+TACTICS = {"": "search rules fits 100", " by search": "search rules", " by steps": "search (rules, common_steps)",
+           " by check": None}
 SEARCHED = """\
-use Rattle.std.proofs.Common.{{rules, arith}}
+use Rattle.std.proofs.Common.{{rules}}
 use Rattle.std.proofs.lemmas.Grind.{{common_steps}}
 use {module}.Goals as goal
 
@@ -54,11 +59,9 @@ LACKING = "not proved as they stand: {}; run `rt lib` in each, or `make build`, 
 
 # A function of a file: its path below the crate, the lines where its comment and itself begin, and the line after.
 Function = collections.namedtuple("Function", "path file above start end is_of_trait is_generic")
-# The wrong body of a function: the name of the edit, the lines that the function then has, and the goal whose answer
-# refuses it, if that is known, with the tactic where the right body needs no answer.
-Edit = collections.namedtuple("Edit", "name function lines by tactic", defaults=[None, None])
-# What a check says of a function: whether it's proved, and what of its own is refused.
-Said = collections.namedtuple("Said", "is_proved own")
+# An edit of a function: its name, the lines that its body changes, by their numbers, the goal whose answer refuses it,
+# the tactic where the right body needs no answer (none if the whole check is that), and the edit that the body is of.
+Edit = collections.namedtuple("Edit", "name function changes goal tactic body")
 
 
 def enclosing(opens, lines, at):
@@ -102,16 +105,17 @@ def body_of(lines, start):
 
 @functools.cache
 def goals_of(crate):
-    """By the name of an edit the goal whose answer refuses it, and the tactic where the right body needs no answer."""
+    """By the name of an edit its goal, the tactic where the right body needs no answer, and the edit that the body is
+    of."""
     path = crates.folder(crate, "must-fail", "goals.md")
-    rows = re.findall(r"- `(\w+)`: `(.+)`( by grind)?\n", places.text_of(path) if os.path.exists(path) else "")
-    return {name: (goal, TACTICS[how]) for name, goal, how in rows}
+    rows = re.findall(r"- `(\w+)`: `(.+?)`( by \w+)?(?: with `(\w+)`)?\n", places.text_of(path))
+    return {name: (goal, TACTICS[how], body or name) for name, goal, how, body in rows}
 
 
 def read_edits(crate, name):
-    """Reads an edit of the toolchain's format: `file:`, and pairs of `old:` and `new:`, of which the old text stands in
-    the file once. Gives an edit for each function that it changes and that a later pair doesn't change back."""
-    path, texts, were, functions = crates.folder(crate, "must-fail", f"{name}.edit"), {}, {}, {}
+    """Reads an edit of the toolchain's format: `file:`, and pairs of `old:` and `new:`, a line each, of which the old
+    text stands in the file once. Gives an edit for each function that it changes."""
+    path, texts, were = crates.folder(crate, "must-fail", f"{name}.edit"), {}, {}
     for line in places.text_of(path).split("\n"):
         if line.startswith("file: "):
             file = line[len("file: ") :]
@@ -120,63 +124,70 @@ def read_edits(crate, name):
         elif line.startswith("old: "):
             old = line[len("old: ") :]
         elif line.startswith("new:"):
-            text = texts[file]
-            if text.count(old) != 1:
-                raise ValueError(f"{path}: {old!r} stands in {file} {text.count(old)} times")
-            texts[file] = text.replace(old, line[len("new: ") :])
-            function = function_at(texts[file].split("\n"), text[: text.index(old)].count("\n"), file)
-            if not function:
-                raise ValueError(f"{path}: no function holds {old!r}")
-            functions[function] = None
-    lines_of = lambda text, it: text.split("\n")[it.start : it.end]
-    changed = [it for it in functions if lines_of(texts[it.file], it) != lines_of(were[it.file], it)]
+            if texts[file].count(old) != 1:
+                raise ValueError(f"{path}: {old!r} stands in {file} {texts[file].count(old)} times")
+            texts[file] = texts[file].replace(old, line[len("new: ") :])
+    changed = collections.defaultdict(dict)
+    for file, text in texts.items():
+        right = were[file].split("\n")
+        for at, line in enumerate(text.split("\n")):
+            if line != right[at]:
+                function = function_at(right, at, file)
+                if not function:
+                    raise ValueError(f"{path}: no function holds {right[at]!r}")
+                changed[function][at] = line
     if not changed:
         raise ValueError(f"{path}: no function is changed")
     names = [name] if len(changed) == 1 else [f"{name}_in_{it.path.split('::')[-1]}" for it in changed]
-    return [Edit(of, it, lines_of(texts[it.file], it), *goals_of(crate).get(of, [])) for of, it in zip(names, changed)]
+    if missing := set(names) - goals_of(crate).keys():
+        raise ValueError(f"{path}: must-fail/goals.md names no goal of {missing}")
+    return [Edit(of, it, changed[it], *goals_of(crate)[of]) for of, it in zip(names, changed)]
 
 
-def unchanged(crate, edits):
-    """The functions beside which these edits stand, as edits that change nothing."""
-    found = {}
+def joined(edits, are_left_out=False):
+    """The edits with what their bodies change; without what each itself does, if they are left out."""
+    found = []
     for edit in edits:
-        it = edit.function
-        lines = places.text_of(crates.folder(crate, it.file)).split("\n")[it.start : it.end]
-        if not it.is_of_trait:
-            found[it] = Edit(edit.name, it, lines)
-    return list(found.values())
+        beside = [it.changes for it in edits if it.body == edit.body and it != edit]
+        changes = dict(collections.ChainMap(*beside, {} if are_left_out else edit.changes))
+        found.append(edit._replace(changes=changes, body=edit.name if are_left_out else edit.body))
+    return found
 
 
 def judged(edit):
     """The path of the function that has the edit's body in the copy."""
-    return edit.function.path if edit.function.is_of_trait else re.sub(r"\w+$", edit.name, edit.function.path)
+    return edit.function.path if edit.function.is_of_trait else re.sub(r"\w+$", edit.body, edit.function.path)
 
 
-def write_copy(crate, edits, room):
+def folder_of(path, room):
+    """Where the proof of the function with this path lies in a copy."""
+    return os.path.join(room, "proofs", *path.split("::"))
+
+
+def write_copy(crate, bodies, room):
     for part in {"src", "specs", "proofs"}.intersection(os.listdir(crates.folder(crate))):
         shutil.copytree(crates.folder(crate, part), os.path.join(room, part))
     # (from the last line of a file up, so that the lines above keep their numbers)
-    for edit in sorted(edits, key=lambda it: -it.function.start):
+    for to, (edit, *_) in sorted(bodies.items(), key=lambda it: -it[1][0].function.start):
         function, path = edit.function, os.path.join(room, edit.function.file)
         lines = places.text_of(path).split("\n")
         above = lines[function.above : function.start]
-        if edit.by:
-            above = [*(it for it in above if "#[tactic(" not in it), "#[tactic(none)]"]
+        if edit.tactic:
+            above = [it for it in above if "#[tactic(" not in it] + ["#[tactic(none)]"]
+        own = [edit.changes.get(at, lines[at]) for at in range(function.start, function.end)]
         if function.is_of_trait:
-            lines[function.above : function.end] = [*above, *edit.lines]
+            lines[function.above : function.end] = [*above, *own]
         else:
-            head = re.sub(r"\bfn \w+", f"fn {edit.name}", edit.lines[0])
-            lines[function.end : function.end] = ["", *above, head, *edit.lines[1:]]
-            copy_proof(crate, room, function.path, judged(edit))
-        if edit.by:
-            answer_alone(crate, edit, os.path.join(room, "proofs", *judged(edit).split("::"), "Answers.antt"))
+            own[0] = re.sub(r"\bfn \w+", f"fn {edit.body}", own[0])
+            lines[function.end : function.end] = ["", *above, *own]
+            copy_proof(crate, room, function.path, to)
         places.wrote("\n".join(lines), path)
 
 
-def write_stubs(edits, room):
+def write_stubs(bodies, room):
     """Puts an endless loop in the place of each other function's body in the copy, and gives the paths of these
     functions. A constant function stays, since the compiler runs it."""
-    own, stubs = {judged(it) for it in edits}, []
+    stubs = []
     for path in glob.glob(f"{room}/src/**/*.rt", recursive=True):
         file = os.path.relpath(path, room)
         lines = places.text_of(path).split("\n")
@@ -185,8 +196,8 @@ def write_stubs(edits, room):
             match = re.match(OPENS_FUNCTION, lines[start])
             body = match and "const fn" not in match[0] and body_of(lines, start)
             function = body and function_at(lines, start + 1, file).path
-            if function and function not in own:
-                lines[slice(*body)] = [match[1] + "    loop {}"]
+            if function and function not in bodies:
+                lines[slice(*body)] = [f"{match[1]}    {STUB}"]
                 stubs.append(function)
         places.wrote("\n".join(lines), path)
     return stubs
@@ -194,7 +205,7 @@ def write_stubs(edits, room):
 
 def copy_proof(crate, room, path, to):
     """Gives the function `to` the proof of another, if that has files."""
-    was, now = [os.path.join(room, "proofs", *it.split("::")) for it in (path, to)]
+    was, now = folder_of(path, room), folder_of(to, room)
     if not os.path.isdir(was):
         return
     shutil.copytree(was, now)
@@ -203,23 +214,43 @@ def copy_proof(crate, room, path, to):
         places.wrote(re.sub(rf"{re.escape(module)}\b", copied, places.text_of(file)), file)
 
 
-def answer_alone(crate, edit, path):
-    """Leaves only the answer to the edit's goal, and lemmas, in a file of answers, or else that of the search."""
-    answered = lambda part: re.search(r"(?m)^pub (\S+) :\s+goal\.", part)
-    parts = re.split(r"\n\n(?=\S)", places.text_of(path)) if os.path.exists(path) else []
-    kept = [it for it in parts if not answered(it) or answered(it)[1] == edit.by]
-    if not any(map(answered, kept)):
-        os.makedirs(os.path.dirname(path), exist_ok=True)
-        kept = [SEARCHED.format(module=f"Rattle.{crate}.proofs.{judged(edit).replace('::', '.')}", goal=edit.by,
-                                parameters="g " * edit.function.is_generic, tactic=edit.tactic)]
-    places.wrote("\n\n".join(kept), path)
+def write_answers(crate, path, edits, room):
+    """Puts the answer to the goal of each of a body's edits into a module of its own, and leaves of the file of answers
+    what names these goals, as a file that can't be read to its end."""
+    folder, module = folder_of(path, room), f"Rattle.{crate}.proofs.{path.replace('::', '.')}"
+    file = f"{folder}/Answers.antt"
+    text = places.text_of(file) if os.path.exists(file) else ""
+    answers = {it.name: answer_alone(module, text, it) for it in edits}
+    os.makedirs(f"{folder}/Answers", exist_ok=True)
+    for name, own in answers.items():
+        places.wrote(own, f"{folder}/Answers/{name}.antt")
+    parts = [f"mod {it}\nuse {module}.Answers.{it}" for it in answers]
+    # (what calls a method of a trait is checked if its file can be read)
+    parts += [f"use {module}.Nothing"] * (not edits[0].function.is_of_trait)
+    parts += dict.fromkeys(it for own in answers.values() for it in PARTED.split(own))
+    places.wrote("\n\n".join(sorted(parts, key=lambda it: not it.startswith(("mod ", "use ")))), file)
 
 
-def leave_proofs_out(crate, edits, stubs, room):
-    """Puts a hole in place of the proofs in the copy that aren't those of these edits."""
+def answer_alone(module, text, edit):
+    """The text of a file of answers without those to other goals, but for what it names of these, or else the answer by
+    a tactic. All of it, if the edit's goal is a lemma there."""
+    parts = PARTED.split(text)
+    named = [re.search(r"(?m)^(?:pub )?(\S+) :\s+(goal\.)?", it) or ["", "", ""] for it in parts]
+    own = next((at for at, it in enumerate(named) if it[1] == edit.goal), None)
+    if own is None:
+        return SEARCHED.format(module=module, goal=edit.goal, parameters="g " * edit.function.is_generic,
+                               tactic=edit.tactic)
+    kept = [at for at, it in enumerate(named) if at == own or not named[own][2] or not it[2]]
+    for at in kept:
+        kept += [other for other, it in enumerate(named) if other not in kept
+                 and re.search(rf"(?<![\w.-]){re.escape(it[1])}(?![\w-])", parts[at])]
+    return "\n\n".join(parts[it] for it in sorted(kept))
+
+
+def leave_proofs_out(crate, bodies, stubs, room):
+    """Puts a hole in place of the proofs in the copy that aren't those of these bodies."""
     proofs = os.path.join(room, "proofs")
-    folder_of = lambda path: os.path.join(proofs, *path.split("::"))
-    own, held = {folder_of(judged(it)) for it in edits}, {folder_of(it) for it in stubs}
+    own, held = {folder_of(it, room) for it in bodies}, {folder_of(it, room) for it in stubs}
     texts = {file: places.text_of(file) for file in glob.glob(f"{proofs}/**/*.antt", recursive=True)}
     unfolded = {name for text in texts.values() for names in re.findall(r"(?m)^ *unfolding (.*)", text)
                 for name in names.split()}
@@ -263,67 +294,34 @@ def stated(text, unfolded):
     return "\n".join(lines)
 
 
-def refuse_offers(edits, room):
-    """Ends the answers for each function with an edit in the copy with the declaration that is refused."""
-    for edit in edits:
-        folder = os.path.join(room, "proofs", *judged(edit).split("::"))
-        os.makedirs(folder, exist_ok=True)
-        with open(f"{folder}/Answers.antt", "a", encoding="utf-8") as answers:
-            answers.write(NO_OFFERS)
-
-
-def check(crate, edits, are_wrong):
-    """What a check of the crate with these edits says of each function. Its words go to out/edits-CRATE.log."""
+def check(crate, bodies, log):
+    """Checks the crate with these bodies, of each its edits, by the path of its function. Gives what it tells of
+    functions, by their paths, and what it refuses, by the path of the file below proofs/. Its words go to the log."""
     words = [*crates.command("check", crate), "--jobs", "1", "--allow-holes",
-             *(word for edit in edits for word in ("--only", judged(edit)))]
-    own, goals, said = collections.defaultdict(list), [], {}
+             *(word for path in bodies for word in ("--only", path))]
+    told, unread, refused = {}, [], collections.defaultdict(list)
     how = {"stdin": subprocess.DEVNULL, "stdout": subprocess.PIPE, "stderr": subprocess.STDOUT, "text": True,
            "errors": "replace"}
-    with tempfile.TemporaryDirectory(prefix="edits-") as room, open(log_of(crate), "a", encoding="utf-8") as log:
-        write_copy(crate, edits, room)
-        leave_proofs_out(crate, edits, write_stubs(edits, room), room)
-        if are_wrong:
-            refuse_offers(edits, room)
+    with tempfile.TemporaryDirectory(prefix="edits-") as room:
+        write_copy(crate, bodies, room)
+        leave_proofs_out(crate, bodies, write_stubs(bodies, room), room)
+        for path, edits in bodies.items():
+            if edits[0].tactic:
+                write_answers(crate, path, edits, room)
         with subprocess.Popen(words, cwd=room, **how) as run:
             last = []
             for line in run.stdout:
                 log.write(line)
-                if match := re.match(r"(?:\./)?proofs/(.*)/\w+\.antt:\d+:\d+: error: (.*)", line):
-                    last = [] if match[2].startswith(f"`{REFUSED}`") else own[match[1].replace("/", "::")]
+                if match := re.match(r"(?:\./)?proofs/(.*)\.antt:\d+:\d+: error: (.*)", line):
+                    last = refused[match[1].replace("/", "::")]
                     last.append(match[2])
                 elif last and line.startswith("  has no "):
                     last[-1] += line.rstrip()[1:]
-                elif match := re.match(r"note: src/\S+: (it is not proved .*)", line):
-                    goals.append(match[1])
-                elif match := re.match(rf"fn {crate}::(\S+): (no holes|depends on a hole|not proved|no proof)", line):
-                    said[match[1]] = Said(match[2] in ("no holes", "depends on a hole"), own[match[1]] + goals)
-                    goals = []
-    return said
-
-
-def log_of(crate):
-    return places.path("out", f"edits-{crate}.log")
-
-
-def refusals(edit, said):
-    """What is refused for the edit's own fault: of its goal, where one is named."""
-    real = [it for it in said.own if not TAKEN_AWAY.search(it)]
-    return [it for it in real if it.startswith(f"`{edit.by}`")] if edit.by else real
-
-
-def verdict(edit, said):
-    """Whether the edit is refused, and what to say of it, or None if only what its function calls is refused."""
-    found = said.get(judged(edit))
-    if not found:
-        return False, "BAD EDIT: the check says nothing of it"
-    real = refusals(edit, found)
-    if edit.by and not real:
-        return False, f"NOT REFUSED: the answer to {edit.by} isn't"
-    if real:
-        return True, f"refused, as it must be: {real[0][:160]}"
-    if found.own:
-        return True, f"refused, as it must be (only because a proof names what it took away): {found.own[0][:160]}"
-    return None
+                elif match := re.match(rf"fn {crate}::(\S+): (.*)", line):
+                    told[match[1]] = match[2]
+                elif match := re.match(r"note: (?:\./)?proofs/(.*)/Answers\.antt is not checked", line):
+                    unread.append(match[1].replace("/", "::"))
+    return {path: said for path, said in told.items() if path not in unread}, refused
 
 
 def crates_with_edits():
@@ -338,41 +336,46 @@ def unproved_below(crate):
     return [] if crates.are_proved(crates.below(crate)) else crates.below(crate)
 
 
-def begin_log(crate):
+def tried(crate, edits):
+    """Gives for each edit, by its name, what the check refuses of its goal's answer, None where it says nothing of the
+    function; then what else is refused. As few checks as keep two edits of one method of a trait apart."""
+    found, others = {}, []
     os.makedirs(places.path("out"), exist_ok=True)
-    places.wrote("", log_of(crate))
+    with open(places.path("out", f"edits-{crate}.log"), "w", encoding="utf-8") as log:
+        while edits:
+            bodies = collections.defaultdict(list)
+            for edit in edits:
+                own = bodies[judged(edit)]
+                own += [edit] * (not own or own[0].body == edit.body)
+            told, refused = check(crate, bodies, log)
+            for path, own in bodies.items():
+                refused.pop(f"{path}::Answers", None)
+                for edit in own:
+                    said = refused.pop(f"{path}::Answers::{edit.name}", []) if edit.tactic else [told.get(path)]
+                    found[edit.name] = said if path in told else None
+            others += [f"{path}: {it}" for path, all_of in refused.items() for it in all_of]
+            edits = [it for it in edits if it not in bodies[judged(it)]]
+    return found, others
 
 
-def try_edits(crate, left):
-    """Gives for each edit, by its name, whether it is refused, and what to say of it; then what else is refused. As few
-    checks as keep two of one method of a trait apart, and one more for what is refused for its calls alone."""
-    results, others, alone = {}, [], False
-    begin_log(crate)
-    while left:
-        tried = left[:1] if alone else list({judged(it): it for it in reversed(left)}.values())
-        said = check(crate, tried, are_wrong=True)
-        found = {it.name: verdict(it, said) for it in tried}
-        if alone and not any(found.values()):
-            found = {it.name: (False, "NOT REFUSED: nothing of its own is") for it in tried}
-        results.update((name, it) for name, it in found.items() if it)
-        changed = {judged(it) for it in tried}
-        others += [f"{it} is refused, though no edit changes it" for it in said if it not in changed and said[it].own]
-        left, alone = [it for it in left if not found.get(it.name)], not any(found.values())
-    return results, others
+def verdict(edit, said):
+    """Whether the edit is refused, and what to say of it."""
+    if said is None:
+        return False, "BAD EDIT: the check says nothing of it"
+    if real := [it for it in said if f"`{edit.goal}`" in it and not TAKEN_AWAY.search(it)]:
+        return True, f"refused, as it must be: {real[0][:160]}"
+    return False, f"NOT REFUSED: the answer to {edit.goal} isn't" + "".join(f", but {it[:160]}" for it in said[:1])
 
 
-def try_copies(crate, edits):
-    """Gives for each function beside which an edit stands whether it is proved as its own copy, and has nothing refused
-    but the declaration that the answers for a wrong body end with, and what to say of it; then for each goal that is
-    named for an edit whether its answer holds in the right body, if the goal arises there."""
-    begin_log(crate)
-    copies = unchanged(crate, edits)
-    proved, ended = check(crate, copies, are_wrong=False), check(crate, copies, are_wrong=True)
-    is_well = lambda path: path in proved and proved[path].is_proved and path in ended and not ended[path].own
-    right = {it.function: it.lines for it in copies}
-    named = {(it.function, it.by): it._replace(lines=right[it.function]) for it in edits
-             if it.by and it.function in right}
-    answered = check(crate, named.values(), are_wrong=True) if named else {}
-    return [*((is_well(judged(it)), f"{it.function.path}, copied as {it.name}") for it in copies),
-            *((not refusals(it, answered[judged(it)]), f"{it.by} of {it.function.path}, copied as {it.name}")
-              for it in named.values())]
+def answered(edit, said):
+    """Whether the edit's goal is answered, or isn't there, and what to say of it."""
+    refused = [it for it in said or [] if f"`{edit.goal}`" in it and f"Goals` has no `{edit.goal}`" not in it]
+    return said is not None and not refused, f"without it: {(refused or ['answered'])[0][:200]}"
+
+
+def try_edits(crate, edits, are_unchanged=False):
+    """Gives for each edit, by its name, whether it is refused, and what to say of it; then what else is refused. With
+    are_unchanged each is left out of its body, whose goal has to be answered then, or not to arise."""
+    found, others = tried(crate, joined(edits, are_unchanged))
+    says = answered if are_unchanged else verdict
+    return {it.name: says(it, found[it.name]) for it in edits}, others
