@@ -10,7 +10,8 @@ import tempfile
 from tests import corpus
 from tests.support import places
 
-ZXING = ["java", "-cp", "/usr/share/java/core.jar", places.path("tests", "corpus", "Zxing.java"), "write"]
+ZXING = ["java", "-XX:TieredStopAtLevel=1", "-XX:+UseSerialGC", "-cp", "/usr/share/java/core.jar",  # for a quick start
+         places.path("tests", "corpus", "Zxing.java"), "write"]
 BWIPP = "/usr/share/libpostscriptbarcode/barcode.ps"
 # Prints the rows of the symbol that an encoder of BWIPP makes of a message.
 TO_ROWS = """({source}) run <{message}> ({options} dontdraw) /{encoder} /uk.co.terryburton.bwipp findresource exec

@@ -28,8 +28,7 @@ OF_ZXING = {number for number in REGISTER if number <= 30 or number == 170}
 BIG_5 = 28
 UNLIKE = {"Prix : 12,50 €": {9, 30}, "价格 ¥12.50": {BIG_5}, "뷁똠방각하": {30}}
 # Texts with the charsets that are asked for, and the bytes and marks that they become.
-WRITTEN = [
-    ("", None, b"", ()), ("ABC\x1d\0", None, b"ABC\x1d\0", ()), ("caf\u00e9", None, b"caf\xe9", ()),
+WRITTEN = [("", None, b"", ()), ("ABC\x1d\0", None, b"ABC\x1d\0", ()), ("caf\u00e9", None, b"caf\xe9", ()),
     ("caf\u00e9", "latin-1", b"caf\xe9", ()), ("caf\u00e9", UTF_8, b"caf\xc3\xa9", ()),
     ("caf\u00e9", "cp437", b"caf\x82", ((0, 2),)), ("caf\u00e9", "ascii", UnicodeEncodeError, None),
     ("20 \u00b0C", None, b"20 \xb0C", ((0, 3),)), ("20 \u00b0C", LATIN_1, b"20 \xb0C", ((0, 3),)),
@@ -43,8 +42,7 @@ WRITTEN = [
     *((word, None, word.encode(LATIN_1), ()) for word in ("garçon", "São Paulo", "Schwarz-Weiß negativ", "élève",
       "Größe", "ÄÖ ÄÖ Caféx", "Ö. öa öa öa", "£ abcdefghi", "10÷2", "é \x81")),
     *((word, None, word.encode(LATIN_1), ((0, 3),)) for word in ("ÄÖÜ", "éaéaéa", "ÄÖ Caféx", "é\x81", "£ abcdefg",
-      "× 2", "5 µm")),
-    ("\u00ff", None, b"\xff", ()), ("\u0100", None, b"\xc0", ((0, 6),)),
+      "× 2", "5 µm")), ("\u00ff", None, b"\xff", ()), ("\u0100", None, b"\xc0", ((0, 6),)),
     ("\u20ac", None, b"\xa4", ((0, 17),)), ("\u20ac", UTF_8, b"\xe2\x82\xac", ()),
     # (the charset of the smallest square; of equal ones UTF-8, or else the least assignment)
     ("Łódź", None, b"\xa3\xf3d\xbc", ((0, 4),)), ("กทม.", None, b"\xa1\xb7\xc1.", ((0, 13),)),
@@ -56,14 +54,11 @@ WRITTEN = [
     ("\u041f", "cyrillic", b"\xbf", ((0, 7),)), ("\u041f", "koi8-r", b"\xf0", ()),
     ("A", "utf-16-le", b"A\0", ((0, 33),)), ("A\u00a5", "sjis", UnicodeEncodeError, None),
     ("A\u3164", "euc-kr", UnicodeEncodeError, None),
-    ("A", "cp1251", b"A", ()), ("A", "none", LookupError, None), ("\ud800", None, UnicodeEncodeError, None),
-]
+    ("A", "cp1251", b"A", ()), ("A", "none", LookupError, None), ("\ud800", None, UnicodeEncodeError, None)]
 # Texts with the charsets that are asked for, and the bytes that they become for readers that know no marks.
-UNMARKED = [
-    ("20 \u00b0C", None, b"20 \xb0C"), ("20 \u00b0C", LATIN_1, b"20 \xb0C"),
+UNMARKED = [("20 \u00b0C", None, b"20 \xb0C"), ("20 \u00b0C", LATIN_1, b"20 \xb0C"),
     ("\u00c3\u00a9", None, b"\xc3\x83\xc2\xa9"), ("\u041f", None, b"\xd0\x9f"), ("\u041f", "cp1251", b"\xcf"),
-    ("\u20ac", LATIN_1, UnicodeEncodeError),
-]
+    ("\u20ac", LATIN_1, UnicodeEncodeError)]
 
 
 def outcome(call, *given):
@@ -127,9 +122,8 @@ class Texts(PackageCase):
     def test_written(self):
         """Which bytes and marks a text becomes, and that it is written as these."""
         for text, charset, data, marks in WRITTEN:
-            wanted = (data, marks) if marks is not None else data
             name = f"{text!r} in {charset}"
-            self.row(name, outcome(charsets.content_of, text, charset), wanted)
+            self.row(name, outcome(charsets.content_of, text, charset), data if marks is None else (data, marks))
             if marks is None:
                 for call in (ecc200.write, ecc200.encode):
                     self.row(f"{call.__name__}, {name}", outcome(lambda: call(text, charset=charset)), data)
@@ -207,13 +201,14 @@ class Texts(PackageCase):
     @needs.programs("ZXingReader")
     def test_alike(self):
         """zxing-cpp reads each character of each charset in which text that ISO/IEC 8859-1 hasn't is written."""
-        letters = [chr(code) for code in (*range(32, 127), *range(160, 0xD800), *range(0xE000, 0x10000))]
+        letters = "".join(map(chr, (*range(32, 127), *range(160, 0xD800), *range(0xE000, 0x10000))))
         symbols, wanted = [], []
-        for number in sorted(core._ALIKE):
-            of_it = "".join(letter for letter in letters if core._has_alike(letter, number))
+        for number, charset in ((it, charsets.charset_of(it)) for it in sorted(core._ALIKE)):
+            there = letters.encode(charset, "ignore").decode(charset, "ignore")
+            of_it = "".join(letter for letter in sorted({*there}) if core._has_alike(letter, number))
             self.holds(f"characters of ECI {number}", len(of_it) > 140, f"{len(of_it)}")
             for text in (of_it[at:at + 500] for at in range(0, len(of_it), 500)):
-                data = core.encoded(text, charsets.charset_of(number))
+                data = core.encoded(text, charset)
                 symbols, wanted = [*symbols, ecc200.encode(data, marks=[(0, number)])], [*wanted, (number, text)]
         for (number, text), got in zip(wanted, said_by_zxing(symbols, self.room)):
             self.row(f"ECI {number}, {text[-9:]!r}", got, text)
@@ -304,8 +299,7 @@ class Texts(PackageCase):
         alone, programming = ecc200.read(ecc200.write(b"AB")), ecc200.read(ecc200.write(b"AB", head="programming"))
         twice, marked = part(1, 3, b"AC"), part(1, 3, b"AB", marks=[(0, 3)])
         file = "the file 1 2 of 3 parts"
-        for given, wanted in (
-            ([first], ((2, 3), (), (), f"missing of {file}: part 2, 3")),
+        for given, wanted in (([first], ((2, 3), (), (), f"missing of {file}: part 2, 3")),
             ([third, third], ((1, 2), (), (), f"missing of {file}: part 1, 2")),
             ([first, second, twice, third], ((), (1,), (), "with two contents: part 1")),
             ([first, second, marked, third], ((), (1,), (), "with two contents: part 1")),
