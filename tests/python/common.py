@@ -1,12 +1,15 @@
 """What the tests of the Python package have in common."""
 import contextlib
 import fcntl
+import functools
 import os
 import pty
+import socket
 import struct
 import subprocess
 import termios
 import time
+from concurrent.futures import ThreadPoolExecutor
 from unittest import mock
 
 from tests import corpus
@@ -83,10 +86,64 @@ def environment():
     return clean(PYTHONPATH=PACKAGE, **libraries())
 
 
+# Forks for each run of the command, so that Python and the package start once. It is asked with a folder, words and
+# streams, and answers with a status. What the package keeps of its import depends on none of these.
+NURSERY = """import contextlib, gc, os, runpy, signal, socket, sys
+import ecc200.command, ecc200.reporting, ecc200.writing
+with contextlib.suppress(ImportError):
+    import PIL.Image
+gc.freeze()  # what is here before a child is none of its garbage
+line = socket.socket(fileno=int(sys.argv[1]))
+asked, streams, *_ = socket.recv_fds(line, 1 << 18, 3)
+while asked and (child := os.fork()):
+    for stream in streams:
+        os.close(stream)
+    line.send(b"%d" % os.waitstatus_to_exitcode(os.waitpid(child, 0)[1]))
+    asked, streams, *_ = socket.recv_fds(line, 1 << 18, 3)
+if asked:
+    signal.alarm(600)  # what hangs is ended
+    for number, stream in enumerate(streams):
+        os.dup2(stream, number)
+    os.closerange(3, 99)  # what a Python of its own hasn't open
+    folder, *sys.argv[1:] = map(os.fsdecode, asked.split(b"\\0"))
+    os.chdir(folder)
+    sys.path[0] = os.getcwd()
+    runpy.run_module("ecc200", run_name="__main__", alter_sys=True)
+"""
+STARTED = contextlib.ExitStack()
+
+
+@functools.cache
+def nursery():
+    """The line on which the nursery is asked, which is started for the first run of a class, and ends with it."""
+    line, theirs = socket.socketpair(socket.AF_UNIX, socket.SOCK_SEQPACKET)
+    streams = dict.fromkeys(("stdin", "stdout", "stderr"), subprocess.PIPE)  # as those of the runs are
+    with theirs:
+        STARTED.enter_context(subprocess.Popen([PYTHON, "-c", NURSERY, str(theirs.fileno())], env=environment(),
+                                               pass_fds=[theirs.fileno()], **streams))
+    STARTED.callback(nursery.cache_clear)
+    return STARTED.enter_context(line)
+
+
+def forked(words, given=b"", folder=None):
+    """Status, output and errors, which are bytes, of the command in a child of the nursery."""
+    (reads, feeding), (output, writes), (errors, tells) = os.pipe(), os.pipe(), os.pipe()
+    asked = b"\0".join(map(os.fsencode, (folder or os.getcwd(), *words)))
+    socket.send_fds(nursery(), [asked], [reads, writes, tells])
+    for stream in (reads, writes, tells):
+        os.close(stream)
+    with ThreadPoolExecutor(2) as pool:
+        said = pool.map(lambda stream: open(stream, "rb").read(), (output, errors))
+        with contextlib.suppress(BrokenPipeError), open(feeding, "wb") as stream:
+            stream.write(given)
+    return int(nursery().recv(99)), *said
+
+
 def ecc(words="", *more, given=b"", folder=None):
     """Status, output and errors of the command with the words of a text, and with more words."""
     given = given.encode() if isinstance(given, str) else given
-    return run([*WORDS, *words.split(), *more], given, env=environment(), cwd=folder)
+    status, *said = forked([*words.split(), *more], given, folder)
+    return status, *(each.decode(errors="replace") for each in said)
 
 
 @needs.library
@@ -96,11 +153,14 @@ class PackageCase(Rows):
     @classmethod
     def setUpClass(cls):
         cls.enterClassContext(mock.patch.dict(os.environ, libraries()))
+        cls.addClassCleanup(STARTED.close)
         cls.room = cls.folder_of_class()
         os.chmod(cls.room, 0o755)
 
-    def made(self, name):
-        """Makes a folder, in which `self.ecc` then runs the command."""
+    def made(self, name, search=""):
+        """Makes a folder, in which `self.ecc` then runs the command, for a case that needs this search, if any."""
+        if search:
+            self.needs_search(search)
         self.here = os.path.join(self.room, name)
         os.mkdir(self.here)
         return self.here

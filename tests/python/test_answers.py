@@ -61,8 +61,7 @@ class Answers(PackageCase):
                                   (0, "large\n", None))):
             pages[0].save(path, save_all=True, append_images=pages[1:])
             self.says(f"pages, {name}", ecc("read", path), *got)
-        with open(path, "r+b") as file:
-            file.truncate(os.path.getsize(path) - 50)
+        os.truncate(path, os.path.getsize(path) - 50)
         self.says("pages before one that is cut off", ecc("read", path), 2, "large\n", ["unlike.tiff: page 2"])
 
     def test_explained(self):

@@ -25,12 +25,6 @@ def shell(line, folder=None, **more):
     return run(["/bin/bash", "-c", line], env={**environment(), "E": f"{PYTHON} {FACE}", **more}, cwd=folder)
 
 
-def made(folder, name):
-    path = os.path.join(folder, name)
-    os.mkdir(path)
-    return path
-
-
 class Batches(PackageCase):
     def test_numbered(self):
         here = self.made("numbered")
@@ -67,7 +61,7 @@ class Batches(PackageCase):
     def test_several(self):
         """Files are told apart by name, and one that can't be read keeps none from being read."""
         here = self.made("several")
-        made(here, "folder")
+        os.mkdir(os.path.join(here, "folder"))
         saved(here, "label.txt", symbols(b"123456", b"A"))
         saved(here, "other.txt", symbols(b"B"))
         saved(here, "broken.png", b"\x89PNG\r\n\x1a\nrubbish")
@@ -215,14 +209,12 @@ class Batches(PackageCase):
         """Standard streams that are closed or full are said, without a traceback."""
         here = self.made("streams")
         saved(here, "label.txt", symbols(b"A"))
-        for name, line, status, part in [
-            ("no input", "$E read <&-", 2, "standard input is closed"),
-            ("no input to write", "$E write <&-", 2, "standard input is closed"),
-            ("no output", "$E read label.txt >&-", 2, "standard output is closed"),
-            ("a full device", "$E read label.txt >/dev/full", 2, "No space left"),
-            ("help, a full device", "$E --help >/dev/full", 2, "No space left"),
-            ("help, no output", "$E --help >&-", 2, "standard output is closed"),
-        ]:
+        for name, line, status, part in [("no input", "$E read <&-", 2, "standard input is closed"),
+                                         ("no input to write", "$E write <&-", 2, "standard input is closed"),
+                                         ("no output", "$E read label.txt >&-", 2, "standard output is closed"),
+                                         ("a full device", "$E read label.txt >/dev/full", 2, "No space left"),
+                                         ("help, a full device", "$E --help >/dev/full", 2, "No space left"),
+                                         ("help, no output", "$E --help >&-", 2, "standard output is closed")]:
             got = shell(line, here)
             self.holds(name, got[0] == status and part in got[2] and got[2].count("\n") == 1, str(got))
         for words, status in (("read nope", 2), ("write --format none A", 2), ("read <&-", 2)):
@@ -240,7 +232,8 @@ class Batches(PackageCase):
         tests run: a shell lets what it starts in the background ignore it."""
         here, how = self.made("interrupted"), {"stderr": subprocess.PIPE, "stdout": subprocess.PIPE}
         how["preexec_fn"] = lambda: signal.signal(signal.SIGINT, signal.SIG_DFL)
-        saved(made(here, "ecc200"), "__init__.py", "import os, signal\nos.kill(os.getpid(), signal.SIGINT)\n")
+        os.mkdir(os.path.join(here, "ecc200"))
+        saved(here, "ecc200/__init__.py", "import os, signal\nos.kill(os.getpid(), signal.SIGINT)\n")
         copied = saved(here, "start", open(FACE).read())
         started = subprocess.run([PYTHON, copied], env={**environment(), "PYTHONPATH": ""}, timeout=60, **how)
         self.row("in the start", (started.returncode, started.stderr), (-signal.SIGINT, b""))

@@ -4,7 +4,7 @@ import re
 import subprocess
 
 from tests.python.common import SAMPLER, WORDS, PackageCase, at_terminal, ecc, environment, run
-from tests.python.test_batches import symbols
+from tests.python.test_batches import shell, symbols
 from tests.python.test_drawings import laid, pixels
 from tests.support import places, work
 
@@ -189,13 +189,12 @@ class Labels(PackageCase):
 
     def test_first_symbols(self):
         """Many pictures of one symbol each take a time far below the second that a search for all takes."""
-        self.needs_search("the time of many pictures")
-        self.made("first")
+        here = self.made("first", "the time of many pictures")
         self.ecc("write -o label.png", given="\n".join(f"number {count}" for count in range(100)))
         pieces = {}
         for words in ((), ("--all", )):
             with work.measured() as took:
-                status, read, _ = self.ecc("read -r --no-filename", *words)
+                status, read, _ = shell(" ".join(["$E read -r --no-filename", *words]), here)
             pieces[words] = took.pieces
             self.row(f"{words}", (status, read.split("\n")[:2], read.count("\n")), (0, ["number 0", "number 1"], 100))
         self.holds("the first alone takes less", pieces[()] < pieces[("--all", )], str(pieces))

@@ -26,10 +26,6 @@ def escapes(*words, given=b""):
     return ecc("read --escapes", given=ecc("write", *words, given=given)[1])[1]
 
 
-def all_texts():
-    return [each for _, each in corpus.texts()]
-
-
 def some_letter(chance):
     """Items, marks and a head by chance, of characters that are encoded in each encodation."""
     kinds = (range(48, 58), range(65, 91), range(97, 123), range(32, 95), range(256), (256, 65, 48, 29, 200))
@@ -98,7 +94,7 @@ class Messages(PackageCase):
 
     def test_texts(self):
         """Texts are read as they were written, in each form, and no form is smaller than the usual one."""
-        some, areas = all_texts(), {}
+        some, areas = [each for _, each in corpus.texts()], {}
         self.row("there are 200", len(some), 200)
         for words in (*FORMS, ("--shape", "any"), ("--basic",), ("--charset", "utf-8"), ("--eci", "26")):
             status, output, errors = ecc("write", *words, given="\n".join(some) + "\n")
@@ -118,7 +114,7 @@ class Messages(PackageCase):
     @needs.programs("ZXingReader")
     def test_texts_by_others(self):
         """zxing-cpp reads texts as they were written, and heads, and GS1 data behind an ECI."""
-        some = all_texts()
+        some = [each for _, each in corpus.texts()]
         ecc("write -o text.png --module 5", given="\n".join(some), folder=self.room)
         for number, one in enumerate(some, 1):
             _, output, _ = run(["ZXingReader", "-format", "DataMatrix", f"text-{number:03}.png"], cwd=self.room)
@@ -163,18 +159,16 @@ class Messages(PackageCase):
         ]:
             self.row(f"write {words}", escapes(*words), wanted + "\n")
         self.row("--bytes --eci", escapes("--bytes", "-", "--eci", "3", given=b"\xff\n"), "\\E{3}\\xFF\\x0A\n")
-        for words, part in [
-            (("--eci", "200", "\u00e9"), "the charset ascii has no '\u00e9'"),
-            (("--eci", "3", "\u65e5"), "the charset iso-8859-1 has no '\u65e5'"),
-            (("--eci", "20", "A\u00a5"), "the charset shift_jis has no '\u00a5'"),
-            *((("--charset", "shift_jis", "A\u00a5", *words), "the charset shift_jis has no '\u00a5'")
-              for words in ((), ("--escapes",))),
-            *((("--basic", *words), "--basic is for know neither ECI") for words in (
-                ("--eci", "3", "A"), ("--form", "ascii", "--programming", "A"), ("--escapes", r"\E{3}A"))),
-            (("--programming", "--escapes", r"\PA"), "it begins with a head"),
-            (("--escapes", r"A\PB"), "followed by 'P'"), (("--escapes", r"\E{1000000}A"), "followed by 'E'"),
-            (("--escapes", r"\A{6/5}A"), "a part of 2 to 16 is wanted"),
-        ]:
+        for words, part in [(("--eci", "200", "\u00e9"), "the charset ascii has no '\u00e9'"),
+                    (("--eci", "3", "\u65e5"), "the charset iso-8859-1 has no '\u65e5'"),
+                    (("--eci", "20", "A\u00a5"), "the charset shift_jis has no '\u00a5'"),
+                    *((("--charset", "shift_jis", "A\u00a5", *words), "the charset shift_jis has no '\u00a5'")
+                      for words in ((), ("--escapes",))),
+                    *((("--basic", *words), "--basic is for know neither ECI") for words in (
+                        ("--eci", "3", "A"), ("--form", "ascii", "--programming", "A"), ("--escapes", r"\E{3}A"))),
+                    (("--programming", "--escapes", r"\PA"), "it begins with a head"),
+                    (("--escapes", r"A\PB"), "followed by 'P'"), (("--escapes", r"\E{1000000}A"), "followed by 'E'"),
+                    (("--escapes", r"\A{6/5}A"), "a part of 2 to 16 is wanted")]:
             self.says(f"write {words}", ecc("write", *words), 1, "", [part])
         for words, part in [(("--eci", "1000000", "A"), "from 0 to 999999"), (("--eci", "-1", "A"), "from 0 to 999999"),
                             (("--append", "2", "A"), "a part of 2 to 16 is wanted"),
@@ -398,11 +392,9 @@ class Messages(PackageCase):
         self.row("of the usual one", blocks.findall(ecc("explain", given=text(rows))[1])[:3], ["9", "10", "1"])
 
     def test_spellings(self):
-        for items, marks, head, wanted in [
-            (b"AB", [(1, 26)], None, r"A\E{26}B"),
-            (b"AB", [(0, 3), (1, 26), (1, 9), (2, 0)], None, r"\E{3}A\E{26}\E{9}B\E{0}"),
-            (b"", [(0, 3)], "programming", r"\P\E{3}"), ([256, 92], [], (2, 5, 1, 254), r"\A{2/5:001254}\F\\"),
-        ]:
+        for items, marks, head, wanted in [(b"AB", [(1, 26)], None, r"A\E{26}B"),
+                    (b"AB", [(0, 3), (1, 26), (1, 9), (2, 0)], None, r"\E{3}A\E{26}\E{9}B\E{0}"),
+                    (b"", [(0, 3)], "programming", r"\P\E{3}"), ([256, 92], [], (2, 5, 1, 254), r"\A{2/5:001254}\F\\")]:
             self.row(f"spelled {wanted}", spelled(items, marks, head), wanted)
             self.row(f"spelled and back {wanted}", of_spelling(wanted, "ascii"), (list(items), marks, head))
         everything = [*range(256), 256]

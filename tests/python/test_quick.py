@@ -15,7 +15,6 @@ from ecc200 import advice, drawing
 HEAVY = {"xml.sax", "urllib.parse", "urllib.request", "http.client", "email", "html", "json", "shutil", "tempfile",
          "datetime", "numpy", "PIL", "argcomplete", "ecc200.reporting", "ecc200.explaining", "unittest", "inspect"}
 
-
 STARTED = """import sys
 from ecc200.command import main
 status = main(sys.argv[1:])

@@ -60,8 +60,7 @@ def beside_one_another(folder, name, symbols):
 class Searches(PackageCase):
     def test_early(self):
         """A search that ends early says so, by a status of its own, a line and JSON; and no other does."""
-        self.needs_search("searches that end early")
-        here = self.made("early")
+        here = self.made("early", "searches that end early")
         name, messages = sheet(here, 12)
         rows = [("all", ("--all", ), 0, 12, None), ("more than there are", ("--most", "13"), 0, 12, None),
                 ("the first", (), 3, 1, ["there are more symbols than the one that is read", "--all"]),
@@ -90,7 +89,7 @@ class Searches(PackageCase):
         Image = self.needs_search("searches whose time is over").Image
         here = self.made("time")
         noise = Image.effect_noise((3000, 3000), 90)
-        noise.save(os.path.join(here, "noise.png"))
+        noise.save(os.path.join(here, "noise.png"), compress_level=1)
         got = self.ecc("read --time 1 noise.png")
         self.says("nothing in time", got, 3, "", ["no Data Matrix symbol was found", "after its 1 ms", "--time"])
         self.row("in one line", got[2].count("\n"), 1)
@@ -99,7 +98,7 @@ class Searches(PackageCase):
         for _ in range(2):
             got = self.ecc("read noise.png")
             self.says("the usual work", got, 3, "", ["noise.png", "ended after its usual work", "--time"])
-        self.row("the usual work in Python", (ecc200.decode(noise), ecc200.decode(noise).ended), ([], core.End.WORK))
+        self.row("the usual work in Python", (got := ecc200.decode(noise), got.ended), ([], core.End.WORK))
         Image.new("L", (60, 60), 255).save(os.path.join(here, "white.png"))
         self.says("nothing in all of a picture", self.ecc("read white.png"), 1, "", ["no Data Matrix symbol"])
         self.row("it is complete in JSON", json.loads(self.ecc("read --json white.png")[1]).get("complete", True), True)
@@ -110,7 +109,7 @@ class Searches(PackageCase):
         self.says("a page out of time", got, 3, "one\n", ["pages.tif: page 2: the search ended after its 200 ms"])
         with Image.open(os.path.join(here, "one.png")) as one:
             noise.paste(one.convert("L").resize((600, 600), Image.NEAREST), (100, 100))
-        noise.save(os.path.join(here, "beside.png"))
+        noise.save(os.path.join(here, "beside.png"), compress_level=1)
         status, _, errors = self.ecc("compare --time 300 beside.png one.png")
         self.holds("compare may have missed one", status >= 2 and ("the search ended after its 300 ms" in errors
                                                                   or "no Data Matrix" in errors), errors)
@@ -118,8 +117,7 @@ class Searches(PackageCase):
     def test_by_python(self):
         """The lists of decode and find say why the search ended."""
         self.row("a grid", (ecc200.decode(ecc200.write(b"A")).complete, ecc200.decode([b"\1"]).complete), (True, True))
-        self.needs_search("searches by Python that end early")
-        here = self.made("python")
+        here = self.made("python", "searches by Python that end early")
         path, messages = sheet(here, 70)
         path = os.path.join(here, path)
         for call in (ecc200.decode, ecc200.find):
@@ -162,8 +160,7 @@ class Searches(PackageCase):
 
     def test_handed_on(self):
         """What the sampler read is said, with the border limit and the doubtful modules by which it was read."""
-        self.needs_search("readings of pictures")
-        here, large, spelled = self.made("handed"), b"M" * 62, b"Mitsubadoor-0123456789-ABCDEFGH"
+        here, large, spelled = self.made("read", "readings of pictures"), b"M" * 62, b"Mitsubadoor-0123456789-ABCDEFGH"
         for name, rows, message in (("border.png", pixels_of(frayed(large, 16), 6, 3, 30, 200), large),
                                     ("glare.png", spotted(ecc200.write(large)), large),
                                     ("blot.png", blotted(spelled, (16, 48)), spelled)):
@@ -209,8 +206,7 @@ class Searches(PackageCase):
                  ([], [ecc200.Code.BLOCK]))
         grids = text(ecc200.write(b"A")) + text(damaged)
         self.row("two", [isinstance(it, ecc200.Reading) for it in ecc200.decode(grids, unread=True)], [True, False])
-        self.needs_search("symbols that are found and not read")
-        here = self.made("unread")
+        here = self.made("unread", "symbols that are found and not read")
         name = beside_one_another(here, "three.png", [ecc200.write(b"123456"), damaged, ecc200.write(b"A")])
         path, words = os.path.join(here, name), ("--time", "20000", name)
         self.row("as without it", sorted(self.ecc("read --all", *words)[1].split()), ["123456", "A"])
@@ -271,8 +267,7 @@ class Searches(PackageCase):
 
     def test_advice(self):
         """Who has a camera is told first what to do with it, and then of options."""
-        self.needs_search("what is advised of pictures")
-        here = self.made("advice")
+        here = self.made("advice", "what is advised of pictures")
         of_rows(here, "light.png", pixels_of([bytes(14)] * 14, 5))
         lost = beside_one_another(here, "lost.png", [hurt(4)])
         unsure = beside_one_another(here, "unsure.png", [hurt(1)])
@@ -285,8 +280,7 @@ class Searches(PackageCase):
 
     def test_unsure(self):
         """What leaves too few corrections isn't read, and says what it may be."""
-        self.needs_search("symbols that leave few corrections")
-        here = self.made("unsure")
+        here = self.made("unsure", "symbols that leave few corrections")
         name = beside_one_another(here, "one.png", [hurt(1)])
         found = ecc200.find(os.path.join(here, name), milliseconds=20_000, margin=2, unread=True)
         self.row("how many", len(found), 1)

@@ -4,14 +4,13 @@ import io
 import json
 import os
 import pickle
-import subprocess
 
+from tests.corpus import make
 from tests.python.common import PackageCase, ecc, run, saved
 from tests.python.test_drawings import laid
 from tests.python.test_labels import of_blocks
 from tests.python.test_module import numpy_forms, plain_forms
 from tests.python.test_surface import text
-from tests.support import places
 
 import ecc200
 from ecc200 import Form, Shape, drawing
@@ -58,11 +57,9 @@ def marked(size, cells):
 
 def read_by_zxing(grids):
     """What ZXing says to grids in the order in which they are given: bytes, or None."""
-    program = places.path("tests", "corpus", "Zxing.java")
     lines = "".join(",".join("".join("01"[module] for module in row) for row in rows) + "\n" for rows in grids)
-    done = subprocess.run(["java", "-cp", ZXING, program, "read"], input=lines.encode(), stdout=subprocess.PIPE,
-                          stderr=subprocess.DEVNULL, timeout=300)
-    return [None if line == "-" else bytes.fromhex(line) for line in done.stdout.decode().split("\n")[:-1]]
+    said = make.output([*make.ZXING[:-1], "read"], lines.encode()).decode()
+    return [None if line == "-" else bytes.fromhex(line) for line in said.split("\n")[:-1]]
 
 
 class Sizes(PackageCase):
@@ -322,8 +319,7 @@ class Sizes(PackageCase):
 
     def test_found(self):
         """Rectangles and large squares in pictures, where the sampler finds them: by the package and by the command."""
-        self.needs_search("rectangles in pictures")
-        here = self.made("found")
+        here = self.made("found", "rectangles in pictures")
         for size in SIZES:
             path, data = os.path.join(here, f"{named(size)}.png"), filling(size)
             ecc200.encode(data, size=size, quiet=4).save(path)

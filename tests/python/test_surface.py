@@ -74,6 +74,14 @@ class Surface(PackageCase):
             status, _, errors = ecc(*words)
             self.holds(f"the words {words}", status == 2 and "usage: ecc200" in errors, f"{status}, {errors}")
 
+    def test_forked(self):
+        """What the nursery forks answers as a Python does that is started for it."""
+        good = smallest(b"123456")
+        for words, given in (("read", good), ("read --json", good + "1x\n"), ("normal", good), ("write --hex", "0f\nx"),
+                             ("read none.txt", ""), ("raed", ""), ("compare a", ""), ("--help", ""), ("--version", "")):
+            own = run([*WORDS, *words.split()], given.encode(), env=environment(), cwd=self.room)
+            self.row(f"the words {words}", ecc(words, given=given, folder=self.room), own)
+
     def test_reading(self):
         good, other = text(ecc200.write(b"123456")), text(ecc200.write(b"A b\\"))
         self.says("read", ecc("read", given=good), output="123456\n")
@@ -120,8 +128,7 @@ class Surface(PackageCase):
         self.says("EDIFACT", ecc("read", given=grid)[:2] + ("",))
         self.says("EDIFACT, --usual", ecc("read --usual", given=grid), 1, "\\no\n", ["EDIFACT", "leave out --usual"])
         good = text(ecc200.write(b"123456"))
-        for name, given, parts in [
-            ("CR", good.replace("\n", "\r\n"), ["CR and LF", "tr -d"]),
+        for name, given, parts in [("CR", good.replace("\n", "\r\n"), ["CR and LF", "tr -d"]),
             ("other characters", "10x0\n", ["the character 'x'"]),
             ("a ragged grid", "10\n1\n", ["from 1 to 2 characters"]),
             ("no size", "10\n10\n10\n", ["no symbol has 3 rows of 2 modules", "'ecc200 sizes' lists"]),
@@ -182,8 +189,7 @@ class Surface(PackageCase):
                               *((b"Mitsubadoor", {"size": size}) for size in ((12, 36), (26, 64), (144, 144)))):
             rows = ecc200.write(message, **more)
             wide, sides = bytes(2 * len(rows[0]) + 2), (len(rows), len(rows[0]))
-            for name, grid, part in [
-                *otherwise(rows),
+            for name, grid, part in [*otherwise(rows),
                 ("wide", [bytes(module for module in row for _ in "abc") for row in rows], "has 3 by 1 characters"),
                 ("high", [row for row in rows for _ in "abc"], "has 1 by 3 characters"),
                 ("mirrored and turned", turned([row[::-1] for row in rows]), "is mirrored and is turned"),
@@ -288,9 +294,8 @@ class Surface(PackageCase):
                 self.says(f"zint's {part}", ecc("read", path), output=said + "\n")
                 self.says(f"zint's {part}, --usual", ecc("read --usual", path), 1, "", [part])
         places.wrote(b"\x89PNG\r\n\x1a\nrubbish", self.room, "broken.png")
-        has_pillow = not run([PYTHON, "-c", "import PIL"])[0]
         self.says("a broken picture", ecc("read", os.path.join(self.room, "broken.png")), 2, "",
-                  ["broken.png", "can't be opened" if has_pillow else "Pillow"])
+                  ["broken.png", "Pillow" if run([PYTHON, "-c", "import PIL"])[0] else "can't be opened"])
         self.says("a folder that isn't there", ecc("write A -o", os.path.join(self.room, "none", "a.png")), 2, "",
                   ["there is no folder"])
 

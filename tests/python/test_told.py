@@ -4,8 +4,8 @@ import os
 import signal
 import subprocess
 
-from tests.python.common import PYTHON, WORDS, PackageCase, ecc, environment, run
-from tests.python.test_batches import made, saved, symbols
+from tests.python.common import PYTHON, WORDS, PackageCase, ecc, environment, forked, run
+from tests.python.test_batches import saved, symbols
 from tests.python.test_surface import hurt, text
 
 import ecc200
@@ -17,10 +17,10 @@ NAMED = b"a\\x1B]0;x\\x07\\x0A\\xC2\\x9Bb\\xE2\\x80\\xAE\xe9\\x9B.txt"
 
 
 def raw(*words, folder=None, **more):
-    """Status, output and errors of the command as bytes."""
-    done = subprocess.run([*WORDS, *words], stdin=subprocess.DEVNULL, stdout=subprocess.PIPE, stderr=subprocess.PIPE,
-                          env={**environment(), **more}, cwd=folder, timeout=60)
-    return done.returncode, done.stdout, done.stderr
+    """Status, output and errors of the command, which are bytes, with more in its environment."""
+    done = more and subprocess.run([*WORDS, *words], input=b"", capture_output=True, env={**environment(), **more},
+                                   cwd=folder, timeout=60)
+    return (done.returncode, done.stdout, done.stderr) if more else forked(words, folder=folder)
 
 
 STOPPED = """import os, signal, sys
@@ -66,8 +66,7 @@ class Told(PackageCase):
 
     def test_meant(self):
         """An error is said first, with what was meant, and the usage stands behind it."""
-        for words, part in [
-            (("raed", ), "there is no command raed: is read meant?"),
+        for words, part in [(("raed", ), "there is no command raed: is read meant?"),
             (("quiet", ), "there is no command quiet; there are read,"), ((), "a command is wanted; there are read,"),
             (("--versoin", ), "no option --versoin: is --version meant?"),
             (("read", "--jsn"), "there is no option --jsn: is --json meant?"), (("read", "-json"), "is --json meant?"),
@@ -113,10 +112,9 @@ class Told(PackageCase):
                                        bytes(range(256)), "\u20ac\n".encode())):
             grid = ecc("write --raw", given=data)[1]
             for _ in range(2):
-                done = subprocess.run([*WORDS, "read", "--raw"], input=grid.encode(), env=environment(), timeout=60,
-                                      capture_output=True)
-                self.row(f"bytes {number}", (done.returncode, done.stdout, done.stderr), (0, data, b""))
-                grid = ecc("write --raw", given=done.stdout)[1]
+                got = forked(["read", "--raw"], grid.encode())
+                self.row(f"bytes {number}", got, (0, data, b""))
+                grid = ecc("write --raw", given=got[1])[1]
         self.says("words", ecc("write --raw", "\u20ac\n", "A\n"), output=symbols("\u20ac\n".encode(), b"A\n"))
         self.row("write and read of a backslash", ecc("read --raw", given=ecc("write", "C:\\new")[1])[1], "C:\\new")
         self.says("many", ecc("write --raw", given=b"\xff" * 4000), 1, "", ["standard input: the message is longer"])
@@ -131,8 +129,7 @@ class Told(PackageCase):
 
     def test_others(self):
         """Of a sheet the first symbol is read, and that there are more is said."""
-        self.needs_search("sheets of which one symbol is read")
-        self.made("others")
+        self.made("others", "sheets of which one symbol is read")
         for count in (1, 6):
             self.ecc("write --sheet 100x60 -o", f"{count}.png", given="".join(f"SN-{it}\n" for it in range(count)))
         for command in ("read", "check", "explain", "normal"):
@@ -149,9 +146,8 @@ class Told(PackageCase):
     def test_folders(self):
         """A folder with nothing to be read is named, with what it has."""
         here = self.made("folders")
-        for name in ("empty", "drawn", "mixed"):
-            made(here, name)
-        made(here, "empty/inner")
+        for name in ("empty", "drawn", "mixed", "empty/inner"):
+            os.mkdir(os.path.join(here, name))
         for number in range(2):
             saved(here, f"drawn/{number}.pdf", b"%PDF-1.4\n")
         saved(here, "drawn/notes.txt", "none\n")

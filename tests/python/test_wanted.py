@@ -8,14 +8,9 @@ import ecc200
 from ecc200 import pictures
 
 
-class Index:
+def index(number):
     """A whole number that is no int, as numpy's are."""
-
-    def __init__(self, number):
-        self.number = number
-
-    def __index__(self):
-        return self.number
+    return type("Index", (), {"__index__": lambda _: number})()
 
 
 class Wanted(PackageCase):
@@ -43,7 +38,7 @@ class Wanted(PackageCase):
                     ecc200.read(None))
         self.raises("read([7])", TypeError, "a row of modules is bytes, text, or a list of numbers, unlike 7",
                     lambda: ecc200.read([7]))
-        self.row("numpy's numbers", ecc200.write(b"A", size=(Index(8), Index(32))), ecc200.write(b"A", size=(8, 32)))
+        self.row("numpy's numbers", ecc200.write(b"A", size=(index(8), index(32))), ecc200.write(b"A", size=(8, 32)))
 
     def test_rows_of_numbers(self):
         """numpy makes numbers of the rows of symbols, all of them."""
@@ -63,8 +58,7 @@ class Wanted(PackageCase):
         """Pictures of 16 and 32 bits and of floats are read as those of 8 bits are."""
         pillow = self.needed("PIL.Image", "Pillow", "pictures of other depths")
         numpy = self.needed("numpy", "numpy", "pictures of other depths")
-        grey = numpy.array(ecc200.encode(b"16 bits"))
-        grey = grey.repeat(5, 0).repeat(5, 1)
+        grey = numpy.array(ecc200.encode(b"16 bits")).repeat(5, 0).repeat(5, 1)
         full, camera = grey.astype(numpy.uint16) * 257, grey.astype(numpy.uint16) * 16  # 12 bits of a camera's
         given = {"full": full, "a camera's": camera, "the other order": full.astype(">u2"),
                  "a camera's in the other order": camera.astype(">u2"), "a part": full[:, ::-1][:, ::-1], "colours":
@@ -110,11 +104,9 @@ class Wanted(PackageCase):
     def test_by_command(self):
         """The command says what it wants in words of the user's."""
         saved(self.room, "blocks.txt", ecc("write A --format blocks")[1])
-        for name, words, parts in [
-            ("a message behind --sheet", ("write", "-o", "a.pdf", "--sheet", "123456"),
+        for name, words, parts in [("a message behind --sheet", ("write", "-o", "a.pdf", "--sheet", "123456"),
              ["--sheet 123456: a size in millimetres is wanted, as 210x297; if that is a message, put it before "
-              "--sheet"]),
-            ("a size that there isn't", ("write", "--size", "9x9", "A"),
+              "--sheet"]), ("a size that there isn't", ("write", "--size", "9x9", "A"),
              ["no symbol has 9 rows and 9 columns; 'ecc200 sizes' lists those that there are"]),
             ("no size", ("write", "--size", "8", "A"), ["rows and columns are wanted, as 8x32, unlike '8'"]),
             ("a size turned", ("write", "--size", "32x8", "A"), ["no symbol has 32 rows"]),
