@@ -1,6 +1,8 @@
 """How good the print of a symbol is: drawn contrast, blur, growth, form and damage, with errors and directions."""
+import functools
 import json
 import math
+import operator
 import os
 
 from tests.sampler.pictures import PYTHON, pgm, run
@@ -17,22 +19,25 @@ def rows_of(text, **more):
 
 
 def drawn(grid, dark=30, light=230, growth=(0, 0), place=None, scale=SCALE, fine=1, spots=()):
-    """The picture of a grid whose dark modules grow; `place` moves places; `spots` of the quiet zone are dark."""
-    wide, high = len(grid[0]), len(grid)
+    """The picture of a grid whose dark modules grow; `place` gives what a height shows: by how much to the right of
+    where it lies, and from which height; `spots` of the quiet zone are dark."""
     inked = {(x, y) for y, row in enumerate(grid) for x, module in enumerate(row) if module} | set(spots)
+    joined, (across, down) = all if min(growth) < 0 else any, [{-each / 2, each / 2} for each in growth]
+    levels = [light + (dark - light) * count / fine ** 2 for count in range(fine ** 2 + 1)]
+    xs, ys = ([(at + (part + 0.5) / fine) / scale - QUIET for at in range((modules + 2 * QUIET) * scale)
+               for part in range(fine)] for modules in (len(grid[0]), len(grid)))
 
-    def is_dark(x, y):
-        x, y = place(x, y) if place else (x, y)
-        beside = [(x + a * growth[0] / 2, y + b * growth[1] / 2) for a in (-1, 1) for b in (-1, 1)]
-        marks = [(math.floor(a), math.floor(b)) in inked for a, b in beside]
-        return all(marks) if min(growth) < 0 else any(marks)
+    @functools.cache
+    def line(right, heights):
+        """How much of each pixel is dark in a line that shows modules at these heights."""
+        columns = {x for x, _ in inked if joined((x, y) in inked for y in heights)}
+        beside = [[math.floor(x + right + more) in columns for x in xs] for more in across]
+        marks = list(map(joined, zip(*beside)))
+        return [sum(marks[at:at + fine]) for at in range(0, len(marks), fine)]
 
-    def pixel(column, row):
-        seen = [is_dark((column + (a + 0.5) / fine) / scale - QUIET, (row + (b + 0.5) / fine) / scale - QUIET)
-                for a in range(fine) for b in range(fine)]
-        return light + (dark - light) * sum(seen) / len(seen)
-    return [[pixel(column, row) for column in range((wide + 2 * QUIET) * scale)]
-            for row in range((high + 2 * QUIET) * scale)]
+    placed = map(place, ys) if place else ((0, y) for y in ys)
+    lines = [line(right, frozenset(math.floor(y + more) for more in down)) for right, y in placed]
+    return [[levels[sum(counts)] for counts in zip(*lines[at:at + fine])] for at in range(0, len(lines), fine)]
 
 
 def blurred(rows, modules):
@@ -41,16 +46,17 @@ def blurred(rows, modules):
     weights = [math.exp(-(k / modules / SCALE) ** 2 / 2) for k in range(-reach, reach + 1)]
     whole = sum(weights)
 
+    @functools.cache
     def along(line):
-        padded = [line[0]] * reach + line + [line[-1]] * reach
-        return [sum(a * b for a, b in zip(weights, padded[k:])) / whole for k in range(len(line))]
+        padded = line[:1] * reach + line + line[-1:] * reach
+        return [sum(map(operator.mul, weights, padded[k:k + len(weights)])) / whole for k in range(len(line))]
 
-    turned = zip(*map(along, rows))
-    return [list(row) for row in zip(*map(along, map(list, turned)))]
+    turned = zip(*map(along, map(tuple, rows)))
+    return list(zip(*map(along, turned)))
 
 
 def whole(rows):
-    return [[min(255, max(0, round(value))) for value in row] for row in rows]
+    return [list(map(round, row)) for row in rows]
 
 
 def by_pixels(rows, grid):
@@ -141,28 +147,28 @@ class Quality:
         grid, came = rows_of(LOT), []
         side = len(grid)
         for wider, grade in ((1, "A"), (1.04, "A"), (1.07, "B"), (1.09, "C"), (1.11, "D"), (1.15, "F")):
-            quality = self.measured(drawn(grid, place=lambda x, y: (x, y * wider), fine=2))
+            quality = self.measured(drawn(grid, place=lambda y: (0, y * wider), fine=2))
             self.near(f"axial nonuniformity {wider}", quality["axial"], 2 * (wider - 1) / (wider + 1), 0.01)
             self.row(f"its grade, {wider}", quality["grades"]["axial"], grade)
             came.append(quality["axial"])
         self.rises("axial nonuniformity", came)
         for slant in (0.05, 0.1, 0.2):
-            quality = self.measured(drawn(grid, place=lambda x, y: (x + slant * (y - side / 2), y), fine=2))
+            quality = self.measured(drawn(grid, place=lambda y: (slant * (y - side / 2), y), fine=2))
             longer = math.hypot(1, slant)
             self.near(f"axial, skew {slant}", quality["axial"], 2 * (longer - 1) / (longer + 1), 0.01)
             self.near(f"grid, skew {slant}", quality["grid"], 0, 0.05)
             self.near(f"growth, skew {slant}", max(map(abs, quality["growth"])), 0, 0.03)
         came = []
         for most in (0, 0.1, 0.2, 0.3, 0.4):
-            def bent(x, y):
-                return x - most * math.sin(math.pi * min(max(y / side, 0), 1)) ** 2, y
+            def bent(y):
+                return -most * math.sin(math.pi * min(max(y / side, 0), 1)) ** 2, y
             quality = self.measured(drawn(grid, place=bent, fine=2))
             self.near(f"grid nonuniformity {most}", quality["grid"], most, 0.03 + most / 8)
             came.append(quality["grid"])
         self.rises("grid nonuniformity", came)
         for most in (0.2, 0.4):
-            def wound(x, y):
-                return x - most * math.sin(2 * math.pi * min(max(y / side, 0), 1)), y
+            def wound(y):
+                return -most * math.sin(2 * math.pi * min(max(y / side, 0), 1)), y
             quality = self.measured(drawn(grid, place=wound, fine=2))
             self.near(f"grid nonuniformity {most}, wound", quality["grid"], most, 0.03 + most / 8)
 
