@@ -4,7 +4,7 @@ from bisect import bisect_left
 
 from tests.sampler.common import Searches
 from tests.sampler.pictures import grid_of, pixels_of
-from tests.sampler.sheets import labels, sheet_of
+from tests.sampler.sheets import labels, noisy, sheet_of
 from tests.sampler.sizes import tilted
 from tests.sampler.timing import draw, lettering
 
@@ -23,12 +23,11 @@ def captioned(chance):
     return messages, rows
 
 
-def noisy(seed, deviation):
+def noisy_sheet(seed, deviation):
     """A sheet of 64 symbols that lie turned and nearly touch, full of noise, and what they say."""
     chance = random.Random(seed)
     messages, grids = labels(64, chance)
-    return messages, [[max(0, min(255, level + round(chance.gauss(0, deviation)))) for level in row]
-                      for row in tilted(sheet_of(grids, 8, 1, 4), 2.32)]
+    return messages, noisy(tilted(sheet_of(grids, 8, 1, 4), 2.32), deviation, chance)
 
 
 def crowded(grid, chance):
@@ -77,9 +76,9 @@ class Efforts:
     def test_neighbours(self):
         """Symbols that only their neighbours show are found before much else is tried, dark on light or not."""
         searches = Searches(self)
-        messages, rows = noisy(34, 24)
+        messages, rows = noisy_sheet(34, 24)
         found, _ = searches.of(rows, 64, 12)
         self.row("dark on light with 12 % of the usual work", sorted(found), sorted(said(messages)))
-        messages, rows = noisy(35, 32)
+        messages, rows = noisy_sheet(35, 32)
         found, _ = searches.of([[255 - level for level in row] for row in rows], 64)
         self.row("light on dark with the usual work", sorted(found), sorted(said(messages)))

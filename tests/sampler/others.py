@@ -6,6 +6,7 @@ import random
 import shutil
 
 from tests.sampler.pictures import grid_of, pgm, pixels_of, run, turned
+from tests.sampler.sheets import noisy
 from tests.sampler.sizes import tilted
 from tests.support import places
 
@@ -59,7 +60,7 @@ def ways(chance, number, modules):
         rows = turned(rows)
         yield way, rows, None
     yield "mirrored", [row[::-1] for row in rows], None
-    yield "noisy", [[max(0, min(255, level + round(chance.gauss(0, 8)))) for level in row] for row in rows], None
+    yield "noisy", noisy(rows, 8, chance), None
 
 
 def square_rings(count, marks=()):

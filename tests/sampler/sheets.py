@@ -30,11 +30,15 @@ def sheet_of(grids, across, gap, pixels):
     return pixels_of(rows + [[0] * len(rows[0])] * gap, pixels)
 
 
+def noisy(rows, deviation, chance):
+    """A picture full of noise."""
+    return [[max(0, min(255, level + round(chance.gauss(0, deviation)))) for level in row] for row in rows]
+
+
 def told(sampler, rows, *words):
-    """What is said of all symbols in the usual work, in its order, and the work."""
-    with work.measured() as took:
-        done = run([sampler, "--all", "--json", *words], pgm(rows) if rows else b"")
-    return [json.loads(line)["message"] for line in done.stdout.splitlines()], took, (done.returncode, done.stderr)
+    """What is said of all symbols in the usual work, in its order, and how that ended."""
+    done = run([sampler, "--all", "--json", *words], pgm(rows) if rows else b"")
+    return [json.loads(line)["message"] for line in done.stdout.splitlines()], (done.returncode, done.stderr)
 
 
 class Sheets:
@@ -45,7 +49,9 @@ class Sheets:
             messages, grids = labels(count, chance)
             for gap in (1, 2, 4, 6):
                 name = f"{count} symbols, {gap} modules apart"
-                got, took, ended = told(self.sampler, sheet_of(grids, across, gap, pixels))
+                rows = sheet_of(grids, across, gap, pixels)
+                with work.measured() as took:
+                    got, ended = told(self.sampler, rows)
                 self.row(name, (got, ended), (messages, (0, b"")))
                 self.row(f"{name}: the work", took.pieces < MOST_WORK * count or str(took), True)
 
@@ -72,7 +78,7 @@ class Sheets:
         """A sheet that lies turned is read in the order that it has when it is turned back."""
         messages, grids = labels(56, random.Random(22))
         for gap, angle in ((1, 0.12), (2, -0.3), (4, 0.7)):
-            got, _, ended = told(self.sampler, tilted(sheet_of(grids, 8, gap, 4), angle))
+            got, ended = told(self.sampler, tilted(sheet_of(grids, 8, gap, 4), angle))
             self.row(f"{gap} modules apart, turned by {angle}", (got, ended), (messages, (0, b"")))
 
     def test_trays(self):
@@ -85,7 +91,7 @@ class Sheets:
                   for picture in pictures]
         rows = [[level for picture in padded[first:first + 6] for level in picture[line]]
                 for first in range(0, 30, 6) for line in range(side)]
-        got, _, ended = told(self.sampler, rows)
+        got, ended = told(self.sampler, rows)
         self.row("a tray", (got, ended), (messages, (0, b"")))
 
     def test_noisy_sheets(self):
@@ -93,9 +99,8 @@ class Sheets:
         chance = random.Random(32)
         for angle, noise in ((3.03, 22), (2.32, 16), (4.21, 10), (4.04, 16)):
             messages, grids = labels(64, chance)
-            rows = [[max(0, min(255, level + round(chance.gauss(0, noise)))) for level in row]
-                    for row in tilted(sheet_of(grids, 8, 1, 4), angle)]
-            got, _, ended = told(self.sampler, rows)
+            rows = noisy(tilted(sheet_of(grids, 8, 1, 4), angle), noise, chance)
+            got, ended = told(self.sampler, rows)
             self.row(f"noise of {noise}, turned by {angle}", (sorted(got), ended), (sorted(messages), (0, b"")))
 
     def test_our_own_sheets(self):
@@ -107,7 +112,8 @@ class Sheets:
             done = run([sys.executable, "-m", "ecc200", "write", "--sheet", *words, "-o", path],
                        "".join(message + "\n" for message in messages).encode(), env=env)
             self.row(f"a sheet of {count} is drawn", (done.returncode, done.stderr), (0, b""))
-            got, took, ended = told(self.sampler, None, path)
+            with work.measured() as took:
+                got, ended = told(self.sampler, None, path)
             self.row(f"a sheet of {count}", (got, ended), (messages, (0, b"")))
             self.row(f"a sheet of {count}: the work", took.pieces < 10 + MOST_WORK * count or str(took), True)
 
@@ -115,7 +121,7 @@ class Sheets:
         """More symbols than are looked for: those that are found are read, and it is said that there may be more."""
         _, grids = labels(25, random.Random(24))
         rows = sheet_of([grids[k % 25] for k in range(1050)], 35, 2, 3)
-        got, _, (status, said) = told(self.sampler, rows, "--time=100000")
+        got, (status, said) = told(self.sampler, rows, "--time=100000")
         self.row("more than are looked for", (len(got), status, said),
                  (1024, 4, b"dm_sample: -: the search ended early, with 1024 symbols: there may be more\n"))
 
@@ -128,5 +134,5 @@ class Sheets:
                         for grid in grids]
             rows = [[level for picture in pictures[first:first + across] for level in picture[line]]
                     for first in range(0, across * down, across) for line in range(len(pictures[0]))]
-            got, _, ended = told(self.sampler, rows)
+            got, ended = told(self.sampler, rows)
             self.row(f"{across} by {down}, turned by {90 * quarter} degrees or so", (got, ended), (messages, (0, b"")))

@@ -22,18 +22,22 @@ def tilted(rows, angle):
     """A picture turned by any angle, on ground as light as its first pixel, each pixel a mean of those around."""
     high, wide, light = len(rows), len(rows[0]), rows[0][0]
     reach, cosine, sine = int(math.hypot(high, wide)) + 4, math.cos(angle), math.sin(angle)
-
-    def pixel(x, y):
-        right, down = x - reach / 2, y - reach / 2
-        across, along = (cosine * right + sine * down + wide / 2 - 0.5, cosine * down - sine * right + high / 2 - 0.5)
-        column, row = math.floor(across), math.floor(along)
-        if not (0 <= column < wide - 1 and 0 <= row < high - 1):
-            return light
-        right, down = across - column, along - row
-        above, below = rows[row], rows[row + 1]
-        upper = above[column] + right * (above[column + 1] - above[column])
-        return round(upper + down * (below[column] + right * (below[column + 1] - below[column]) - upper))
-    return [[pixel(x + 0.5, y + 0.5) for x in range(reach)] for y in range(reach)]
+    steps = [at + 0.5 - reach / 2 for at in range(reach)]
+    places = [(at, cosine * right, sine * right) for at, right in enumerate(steps)]
+    out = [[light] * reach for _ in steps]
+    for line, down in zip(out, steps):
+        south, fall = sine * down, cosine * down
+        for at, east, rise in places:
+            across, along = east + south + wide / 2 - 0.5, fall - rise + high / 2 - 0.5
+            if 0 <= across < wide - 1 and 0 <= along < high - 1:
+                column, row = int(across), int(along)
+                (one, two), (three, four) = rows[row][column:column + 2], rows[row + 1][column:column + 2]
+                if one == two == three == four:
+                    line[at] = one
+                else:
+                    upper, lower = one + (across - column) * (two - one), three + (across - column) * (four - three)
+                    line[at] = round(upper + (along - row) * (lower - upper))
+    return out
 
 
 @functools.cache
