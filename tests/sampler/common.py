@@ -31,20 +31,28 @@ class SamplerCase(Rows):
         cls.sanitised = None
 
     @classmethod
-    def built(cls, folder, *flags):
-        """Builds the sampler with these flags of the compiler."""
+    def built(cls, folder, *flags, **more):
+        """Builds the sampler with these flags of the compiler, and with more variables."""
         os.makedirs(folder)
-        env = commands.environment(ECC200_FOLDER=places.BUILT)
+        env = commands.environment(ECC200_FOLDER=places.BUILT, **more)
         done = commands.run([os.path.join(cls.sources, "build"), folder, *flags], env=env, timeout=600)
         cls.builds.append((f"sampler/build {' '.join(flags)}", (done.status, done.errors.decode()), (0, "")))
         return os.path.join(folder, "dm_sample")
 
     @property
     def careful(self):
-        """The sampler with the sanitisers, built when it is first asked for."""
+        """The sampler with the sanitisers, built when it is first asked for; its library shows all that it has."""
         kind = type(self)
-        kind.sanitised = kind.sanitised or kind.built(os.path.join(kind.room, "careful"), "-g1", "-O1", *CAREFUL)
+        kind.sanitised = kind.sanitised or kind.built(os.path.join(kind.room, "careful"), "-g1", "-O1", *CAREFUL,
+                                                      CFLAGS="-fvisibility=default")
         return kind.sanitised
+
+    def careful_run(self, source, *words):
+        """What a C file of these tests does that is compiled over the library with the sanitisers."""
+        made, careful = os.path.join(self.room, f"{source}.out"), os.path.dirname(self.careful)
+        self.compiles(source, made, os.path.join(careful, "libecc200_sample.so"), places.SHARED, "-lm",
+                      compiler=("cc", "-std=c17", "-D_POSIX_C_SOURCE=200809L", *CAREFUL))
+        return run([made, *words], env=paths_for(self.folder(), careful, places.BUILT))
 
     def reads(self, name, picture, grid, *words):
         """That the sampler reads this symbol in a picture, which is rows of levels, or what a file has."""

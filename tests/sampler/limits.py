@@ -4,7 +4,7 @@ import random
 import shutil
 
 from tests.sampler.common import paths_for
-from tests.sampler.pictures import CAREFUL, grid_of, pgm, pixels_of, run
+from tests.sampler.pictures import grid_of, pgm, pixels_of, run
 from tests.support import places, work
 
 EXPORTS = ["ecc200_sample_abi", "ecc200_sample_find", "ecc200_sample_measure", "ecc200_sample_other_code",
@@ -40,10 +40,7 @@ class Limits:
 
     def test_nothing(self):
         """In small pictures of any form with nothing to be read the sanitisers find nothing, and nothing is read."""
-        made, careful = os.path.join(self.room, "nothing.out"), os.path.dirname(self.careful)
-        self.compiles("nothing.c", made, os.path.join(careful, "libecc200_sample.so"), places.SHARED, "-lm",
-                      compiler=("cc", "-std=c11", "-O1", *CAREFUL))
-        done = run([made, "0", "64", "1"], env=paths_for(self.folder(), careful, places.BUILT))
+        done = self.careful_run("nothing.c", "0", "64", "1")
         self.row("64 pictures", (done.returncode, done.stdout, done.stderr.decode()[:1500]),
                  (0, b"32 beyond repair, 28 without a symbol, 4 of any form\n", ""))
 

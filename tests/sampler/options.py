@@ -6,7 +6,7 @@ import re
 import shutil
 import subprocess
 
-from tests.sampler.pictures import CAREFUL, grid_of, pgm, pixels_of, record, run
+from tests.sampler.pictures import grid_of, pgm, pixels_of, record, run
 from tests.sampler.sizes import symbols
 from tests.support import places
 
@@ -211,24 +211,19 @@ class Options:
                      is_told or (done.returncode, done.stdout.decode(), said) == (0, record(grid), ""), True)
         self.row("allocations that fail are told", told > 12, True)
 
-    def part(self, name, files):
-        """Runs a C file of this folder over some of the sampler's. It prints what is wrong."""
-        made = os.path.join(self.room, f"{name}.out")
-        sources = [os.path.join(self.sources, f"{file}.c") for file in files]
-        self.compiles(f"{name}.c", made, *sources, places.ARCHIVE, "-lm",
-                      compiler=("cc", "-std=c17", "-D_POSIX_C_SOURCE=200809L", *CAREFUL))
-        done = run([made])
+    def part(self, name):
+        """Runs a C file of this folder over parts of the sampler. It prints what is wrong."""
+        done = self.careful_run(f"{name}.c")
         self.row(name, (done.returncode, done.stdout, done.stderr.decode()[:600]), (0, b"", ""))
 
     def test_parts(self):
         """Points far outside of a picture, the usual work, and straight pieces that are joined."""
-        self.part("parts", ("geometry", "kind", "limit", "outline"))
+        self.part("parts")
 
     def test_judged(self):
         """Readings that say the same, and others; margins; and known damage that is read in two ways."""
-        files = [name.removesuffix(".c") for name in sorted(os.listdir(self.sources)) if name.endswith(".c")]
-        self.part("judged", [name for name in files if name != "judge"])
+        self.part("judged")
 
     def test_tracks(self):
         """Alternating borders of which a part doesn't show."""
-        self.part("tracks", ("finder", "found", "geometry", "layout", "limit", "outline", "plane", "track"))
+        self.part("tracks")

@@ -221,7 +221,7 @@ class Quality:
             self.rises(f"unused error correction of {len(grid)} rows", came, -1)
 
     def test_quality_graded(self):
-        self.part("graded", ["grades"])
+        self.part("graded")
 
     def test_quality_in_python(self):
         """What the module for Python and the command say is what dm_sample does."""
