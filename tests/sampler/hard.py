@@ -1,9 +1,8 @@
 """What a camera sees where marks are made: symbols that touch others, torn, of dots, bent, and in uneven light."""
-import json
 import math
 import random
 
-from tests.sampler.pictures import grid_of, message_of, pgm, pixels_of, run, sizes, turned
+from tests.sampler.pictures import grid_of, message_of, pixels_of, sizes, turned
 
 
 def crowded(grid, chance, among=(0, 1), around=5):
@@ -141,8 +140,9 @@ class Hard:
             for name, right, down in (("crumpled", 0.4, 0.3), ("row by row", 0.45, 0)):
                 rows = waved(grid_of(message_of(count)), 6, right, down, at)
                 for turns in range(4):
-                    self.says(f"side {side}, {name}, {turns} turns", rows, message_of(count))
-                    self.lies_upright(f"side {side}, {name}, {turns} turns", rows, turns, 4 * 6)
+                    told = next(iter(self.told(rows)), {})
+                    self.row(f"side {side}, {name}, {turns} turns", told.get("message"), message_of(count))
+                    self.lies_upright(f"side {side}, {name}, {turns} turns", told, turns, 4 * 6, len(rows) - 4 * 6)
                     rows = [[250 - level for level in row] for row in turned(rows)]
 
     def test_crumpled_large(self):
@@ -165,13 +165,11 @@ class Hard:
             rows = waved(grid_of(message_of(count)), scale, right, down, at)
             self.says(f"side {side}, {right} and {down}, {scale} pixels", rows, message_of(count))
 
-    def lies_upright(self, name, rows, turns, quiet):
+    def lies_upright(self, name, told, turns, near, far):
         """That the corners of a symbol lie about where they do in a picture that was turned so often."""
-        told = json.loads(run([self.sampler, "--json"], pgm(rows)).stdout or b"{}").get("corners", [])
-        far = len(rows) - quiet
-        wanted = [(quiet, quiet), (far, quiet), (far, far), (quiet, far)]
-        self.row(f"{name}: corners", [max(abs(a - b) for a, b in zip(got, wanted[(k + turns) % 4])) < quiet / 2
-                                      for k, got in enumerate(told)], [True] * 4)
+        wanted = [(near, near), (far, near), (far, far), (near, far)]
+        self.row(f"{name}: corners", [max(abs(a - b) for a, b in zip(got, wanted[(k + turns) % 4])) < near / 2
+                                      for k, got in enumerate(told.get("corners", []))], [True] * 4)
 
     def test_bands(self):
         """In the light of a lamp that flickers while the rows are read one by one."""

@@ -19,10 +19,20 @@ def comb(wide, high):
     return f"P5 {wide} {high + 19} 255\n".encode() + light + teeth * high + back * 3 + light
 
 
+TAME = (True, True)
+
+
+def tameness(words):
+    """Whether a command ends with a status, and whether the sanitisers say nothing, or what is said."""
+    done = run(words)
+    said = done.stderr.decode(errors="replace")
+    return done.returncode in (0, 1, 3, 4), "Sanitizer" not in said and "runtime error" not in said or said[:1500]
+
+
 class Limits:
     def test_hostile(self):
         """Files cut short or with random bytes, and small pictures of noise: a status, and nothing from sanitisers."""
-        chance = random.Random(5)
+        chance, spoilt, noise = random.Random(5), {}, {}
         seeds = sorted(name for name in os.listdir(self.room) if name.endswith((".png", ".jpg", ".pgm")))
         for round_of in range(2 * len(seeds)):
             text = bytearray(places.read(self.room, seeds[round_of % len(seeds)]))
@@ -32,11 +42,11 @@ class Limits:
                 if text:
                     text[chance.randrange(min(len(text),
                                               400 if chance.random() < 0.5 else len(text)))] = chance.randrange(256)
-            self.tame(f"a spoilt {seeds[round_of % len(seeds)]}, round {round_of}",
-                      run([self.careful, "--time=300", "--all"], bytes(text)))
+            spoilt[f"a spoilt {seeds[round_of % len(seeds)]}, round {round_of}"] = bytes(text)
         for wide, high in ((1, 1), (1, 300), (300, 1), (2, 2), (7, 9), (23, 24), (48, 49), (90, 70)):
-            noise = [[chance.choice((0, 255)) for _ in range(wide)] for _ in range(high)]
-            self.tame(f"noise of {wide} by {high}", run([self.careful, "--time=300", "--all", "--unread"], pgm(noise)))
+            noise[f"noise of {wide} by {high}"] = pgm([[chance.choice((0, 255)) for _ in range(wide)] for _ in range(high)])
+        self.tame(spoilt)
+        self.tame(noise, "--unread")
 
     def test_nothing(self):
         """In small pictures of any form with nothing to be read the sanitisers find nothing, and nothing is read."""
@@ -44,10 +54,13 @@ class Limits:
         self.row("64 pictures", (done.returncode, done.stdout, done.stderr.decode()[:1500]),
                  (0, b"32 beyond repair, 28 without a symbol, 4 of any form\n", ""))
 
-    def tame(self, name, done):
-        said = done.stderr.decode(errors="replace")
-        quiet = "Sanitizer" not in said and "runtime error" not in said
-        self.row(name, (done.returncode in (0, 1, 3, 4), quiet or said[:1500]), (True, True))
+    def tame(self, files, *words):
+        """That one process ends with a status over these files, and quietly; if it doesn't, each has one of its own."""
+        folder, words = self.folder(), [self.careful, "--time=300", "--all", *words]
+        paths = [places.wrote(text, folder, str(at)) for at, text in enumerate(files.values())]
+        together = tameness(words + paths)
+        for name, path in zip(files, paths):
+            self.row(name, together if together == TAME else tameness([*words, path]), TAME)
 
     def test_large(self):
         """Fifty megapixels with a symbol in them, and light or noisy all over."""
