@@ -1,7 +1,6 @@
 """Truncated and hostile files, large pictures and small ones, and the shared library from C and C++."""
 import os
 import random
-import shutil
 
 from tests.sampler.common import paths_for
 from tests.sampler.pictures import grid_of, pgm, pixels_of, run
@@ -19,16 +18,6 @@ def comb(wide, high):
     return f"P5 {wide} {high + 19} 255\n".encode() + light + teeth * high + back * 3 + light
 
 
-TAME = (True, True)
-
-
-def tameness(words):
-    """Whether a command ends with a status, and whether the sanitisers say nothing, or what is said."""
-    done = run(words)
-    said = done.stderr.decode(errors="replace")
-    return done.returncode in (0, 1, 3, 4), "Sanitizer" not in said and "runtime error" not in said or said[:1500]
-
-
 class Limits:
     def test_hostile(self):
         """Files cut short or with random bytes, and small pictures of noise: a status, and nothing from sanitisers."""
@@ -44,7 +33,8 @@ class Limits:
                                               400 if chance.random() < 0.5 else len(text)))] = chance.randrange(256)
             spoilt[f"a spoilt {seeds[round_of % len(seeds)]}, round {round_of}"] = bytes(text)
         for wide, high in ((1, 1), (1, 300), (300, 1), (2, 2), (7, 9), (23, 24), (48, 49), (90, 70)):
-            noise[f"noise of {wide} by {high}"] = pgm([[chance.choice((0, 255)) for _ in range(wide)] for _ in range(high)])
+            rows = [[chance.choice((0, 255)) for _ in range(wide)] for _ in range(high)]
+            noise[f"noise of {wide} by {high}"] = pgm(rows)
         self.tame(spoilt)
         self.tame(noise, "--unread")
 
@@ -55,12 +45,19 @@ class Limits:
                  (0, b"32 beyond repair, 28 without a symbol, 4 of any form\n", ""))
 
     def tame(self, files, *words):
-        """That one process ends with a status over these files, and quietly; if it doesn't, each has one of its own."""
-        folder, words = self.folder(), [self.careful, "--time=300", "--all", *words]
+        """That a process over these files ends with a status, and quietly: else those fail that do so alone, or all."""
+        folder, tame = self.folder(), (True, True)
         paths = [places.wrote(text, folder, str(at)) for at, text in enumerate(files.values())]
-        together = tameness(words + paths)
-        for name, path in zip(files, paths):
-            self.row(name, together if together == TAME else tameness([*words, path]), TAME)
+        together = self.tameness(*words, *paths)
+        apart = [] if together == tame else [self.tameness(*words, path) for path in paths]
+        for name, each in zip(files, apart if set(apart) - {tame} else [together] * len(files)):
+            self.row(name, each, tame)
+
+    def tameness(self, *words):
+        """Whether the sampler with the sanitisers ends with a status, and these say nothing, or what is said."""
+        done = run([self.careful, "--time=300", "--all", *words])
+        said = done.stderr.decode(errors="replace")
+        return done.returncode in (0, 1, 3, 4), "Sanitizer" not in said and "runtime error" not in said or said[:1500]
 
     def test_large(self):
         """Fifty megapixels with a symbol in them, and light or noisy all over."""
@@ -86,8 +83,7 @@ class Limits:
     def test_library(self):
         picture = pgm(pixels_of(grid_of("FROM C")))
         for name, words in (("calls by C", ["cc", "-std=c11"]), ("calls by C++", ["c++", "-std=c++17", "-x", "c++"])):
-            if not shutil.which(words[0]):
-                self.leave_out(f"{name} ({words[0]} isn't installed)")
+            if not self.has(words[0], name):
                 continue
             made = os.path.join(self.room, name)
             self.compiles("calls.c", made, "-x", "none", os.path.join(self.plain, "libecc200_sample.so"), places.SHARED,

@@ -3,7 +3,6 @@ import json
 import os
 import random
 import re
-import shutil
 import subprocess
 
 from tests.sampler.pictures import grid_of, pgm, pixels_of, record, run
@@ -114,8 +113,7 @@ class Options:
     def test_wide(self):
         """What is in EDIFACT is read too."""
         path = os.path.join(self.room, "edifact.png")
-        if not shutil.which("dmtxwrite"):
-            self.leave_out("a symbol in EDIFACT (dmtxwrite isn't installed)")
+        if not self.has("dmtxwrite", "a symbol in EDIFACT"):
             return
         run(["dmtxwrite", "-e", "e", "-o", path], b"AB.CD/12 34")
         self.says("a symbol in EDIFACT", b"", "AB.CD/12 34", path)

@@ -90,8 +90,7 @@ LEAST_TURNED = 0.9  # of the codes of squares that stand turned by any angle
 class Others:
     def test_other_codes(self):
         """Clean codes of each kind are called what they are: upright at any scale, turned, mirrored, noisy."""
-        if not shutil.which("zint"):
-            self.leave_out("codes of other kinds (zint isn't installed)")
+        if not self.has("zint", "codes of other kinds"):
             return
         library, chance = Library(self), random.Random(61)
         for number, text, modules in codes(chance, 6):
@@ -107,8 +106,7 @@ class Others:
 
     def test_turned_codes(self):
         """QR codes and Aztec codes are called what they are at nearly any angle."""
-        if not shutil.which("zint"):
-            self.leave_out("codes of other kinds that are turned (zint isn't installed)")
+        if not self.has("zint", "codes of other kinds that are turned"):
             return
         library, chance = Library(self), random.Random(64)
         names = [(KINDS[number][0], library.of(tilted(pixels_of(modules, 4, 4), chance.uniform(0, 2 * math.pi)))[0])
@@ -120,8 +118,7 @@ class Others:
 
     def test_other_codes_are_said(self):
         """The program says which other code there is, and the status is as where there is none."""
-        if not shutil.which("zint"):
-            self.leave_out("what is said of codes of other kinds (zint isn't installed)")
+        if not self.has("zint", "what is said of codes of other kinds"):
             return
         for number, text, modules in codes(random.Random(62), 1):
             done = run([self.sampler, "--time=30000"], pgm(pixels_of(modules, 3)))

@@ -5,7 +5,7 @@ import math
 import operator
 import os
 
-from tests.sampler.pictures import PYTHON, pgm, run
+from tests.sampler.pictures import PYTHON, pgm, run, turned
 from tests.support import package
 
 SCALE, QUIET = 10, 3  # pixels, and modules
@@ -51,8 +51,7 @@ def blurred(rows, modules):
         padded = line[:1] * reach + line + line[-1:] * reach
         return [sum(map(operator.mul, weights, padded[k:k + len(weights)])) / whole for k in range(len(line))]
 
-    turned = zip(*map(along, map(tuple, rows)))
-    return list(zip(*map(along, turned)))
+    return list(zip(*map(along, zip(*map(along, map(tuple, rows))))))
 
 
 def whole(rows):
@@ -138,10 +137,9 @@ class Quality:
         for across, blur, error in ((0.2, 0.2, 0.03), (-0.2, 0.2, 0.03), (0.2, 0.3, 0.06), (-0.2, 0.3, 0.06)):
             quality = self.measured(blurred(drawn(grid, growth=(across, across)), blur))
             self.near(f"growth {across}, blur {blur}", quality["growth"][0], across, error)
-        turned = [list(row) for row in zip(*drawn(grid, growth=(0.4, 0.2))[::-1])]
-        self.near("growth across, turned", self.measured(turned)["growth"][0], 0.4, 0.03)
-        lit = self.measured(drawn(grid, 230, 30, growth=(0.2, 0.4)))
-        self.near("growth of light modules down", lit["growth"][1], 0.4, 0.03)
+        for name, axis, rows in (("across, turned", 0, turned(drawn(grid, growth=(0.4, 0.2)))),
+                                 ("of light modules down", 1, drawn(grid, 230, 30, growth=(0.2, 0.4)))):
+            self.near(f"growth {name}", self.measured(rows)["growth"][axis], 0.4, 0.03)
 
     def test_quality_form(self):
         grid, came = rows_of(LOT), []
@@ -160,15 +158,13 @@ class Quality:
             self.near(f"growth, skew {slant}", max(map(abs, quality["growth"])), 0, 0.03)
         came = []
         for most in (0, 0.1, 0.2, 0.3, 0.4):
-            def bent(y):
-                return -most * math.sin(math.pi * min(max(y / side, 0), 1)) ** 2, y
+            bent = lambda y: (-most * math.sin(math.pi * min(max(y / side, 0), 1)) ** 2, y)
             quality = self.measured(drawn(grid, place=bent, fine=2))
             self.near(f"grid nonuniformity {most}", quality["grid"], most, 0.03 + most / 8)
             came.append(quality["grid"])
         self.rises("grid nonuniformity", came)
         for most in (0.2, 0.4):
-            def wound(y):
-                return -most * math.sin(2 * math.pi * min(max(y / side, 0), 1)), y
+            wound = lambda y: (-most * math.sin(2 * math.pi * min(max(y / side, 0), 1)), y)
             quality = self.measured(drawn(grid, place=wound, fine=2))
             self.near(f"grid nonuniformity {most}, wound", quality["grid"], most, 0.03 + most / 8)
 

@@ -3,7 +3,6 @@ import functools
 import json
 import math
 import os
-import shutil
 
 from tests.sampler.pictures import grid_of, message_of, pgm, pixels_of, record, run, turned
 from tests.support import package
@@ -52,7 +51,6 @@ def symbols():
 
 
 class Sizes:
-
     def test_every_other_size(self):
         """Each size upright, by quarters, mirrored, inverted, at three pixels a module or more, without quiet zone."""
         for at, (rows, columns, message, grid) in enumerate(symbols()):
@@ -89,8 +87,7 @@ class Sizes:
             self.row(f"corners of {rows} by {columns}, {way}", got, places_of)
 
     def test_zint(self):
-        if not shutil.which("zint"):
-            self.leave_out("zint's own pictures (zint isn't installed)")
+        if not self.has("zint", "zint's own pictures"):
             return
         path = os.path.join(self.room, "zint.png")
         for version in range(22, 49):

@@ -46,15 +46,11 @@ def cluttered(wide, high, chance, count):
 
 class Timing:
     def by_clock(self, folder, name):
-        """The environment in which the clock is one of these."""
+        """The environment in which the clock is one of these: "clock" gives the processor's time."""
         made = os.path.join(folder, f"{name}.so")
         if not os.path.exists(made):
             self.compiles(f"{name}.c", made, compiler=("cc", "-shared", "-fPIC"))
         return {**os.environ, "LD_PRELOAD": made}
-
-    def by_processor(self, folder):
-        """The environment in which the time of a picture is the processor's."""
-        return self.by_clock(folder, "clock")
 
     def test_a_label(self):
         """Twelve symbols beside frames and text are read within half of the usual second, dark on light or not."""
@@ -64,7 +60,7 @@ class Timing:
         wanted = sorted(record(grid)[:-2] for grid in grids)
         for name, rows in (("as it is", label), ("light on dark", [[255 - level for level in row] for row in label])):
             for more in ([], ["--time=500"]):
-                done = run([self.sampler, "--all", *more], pgm(rows), env=self.by_processor(self.room))
+                done = run([self.sampler, "--all", *more], pgm(rows), env=self.by_clock(self.room, "clock"))
                 self.row(f"a label of twelve, {name} {more}", sorted(done.stdout.decode().split("\n\n")[:-1]), wanted)
 
     def test_early_with_a_symbol(self):
@@ -72,7 +68,7 @@ class Timing:
         chance, wide = random.Random(4), 3000
         rows = [bytes(row) + b"\xe6" * (wide - len(row)) for row in pixels_of(grid_of("123456"), 12)]
         picture = f"P5 {wide} {wide} 255\n".encode() + b"".join(rows) + chance.randbytes(wide * (wide - len(rows)))
-        done = run([self.sampler, "--all", "--json", "--time=900"], picture, env=self.by_processor(self.room))
+        done = run([self.sampler, "--all", "--json", "--time=900"], picture, env=self.by_clock(self.room, "clock"))
         told = [json.loads(line) for line in done.stdout.splitlines()]
         said = b"dm_sample: -: the search ended early, after 900 milliseconds: there may be more symbols\n"
         self.row("found before the time was over",
@@ -139,6 +135,6 @@ class Timing:
         places.wrote(b"P5 8192 6200 255\n" + random.Random(2).randbytes(8192 * 6200), path)
         for milliseconds in (0, 100):
             with work.measured() as took:
-                done = run([self.sampler, f"--time={milliseconds}", path], env=self.by_processor(self.room))
+                done = run([self.sampler, f"--time={milliseconds}", path], env=self.by_clock(self.room, "clock"))
             self.row(f"{milliseconds} ms for 50 megapixels", (done.returncode, took.pieces < 6 or str(took)), (4, True))
         os.remove(path)
