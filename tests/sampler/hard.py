@@ -26,13 +26,12 @@ def turned_by(angle, right, down, side):
 
 def waved(grid, scale, right, down, at, dark=30):
     """A symbol whose modules lie beside their places by so much at most, in waves that begin somewhere."""
-    side = len(grid)
-
-    def level(x, y):
-        column = math.floor(x / scale - 4 + right * math.sin(2 * math.pi * (y / scale / 16 + at / 5)))
-        row = math.floor(y / scale - 4 + down * math.sin(2 * math.pi * (x / scale / 17 + at / 7)))
-        return dark if 0 <= row < side and 0 <= column < side and grid[row][column] else 220
-    return drawn((side + 8) * scale, (side + 8) * scale, level)
+    inked = {(row, column) for row, line in enumerate(grid) for column, module in enumerate(line) if module}
+    middles = [place + 0.5 for place in range((len(grid) + 8) * scale)]
+    downs = [down * math.sin(2 * math.pi * (x / scale / 17 + at / 7)) for x in middles]
+    rights = [right * math.sin(2 * math.pi * (y / scale / 16 + at / 5)) for y in middles]
+    return [[dark if (math.floor(y / scale - 4 + lower), math.floor(x / scale - 4 + farther)) in inked else 220
+             for x, lower in zip(middles, downs)] for y, farther in zip(middles, rights)]
 
 
 def moved_along(rows, path):

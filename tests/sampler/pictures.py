@@ -46,7 +46,8 @@ def pixels_of(grid, scale=4, quiet=3, dark=20, light=230):
     empty = [[light] * (len(grid[0]) + 2 * quiet) for _ in range(quiet)]
     modules = empty + [[light] * quiet + [dark if module else light for module in row] + [light] * quiet
                        for row in grid] + empty
-    return [[level for level in row for _ in range(scale)] for row in modules for _ in range(scale)]
+    lines = [[level for level in row for _ in range(scale)] for row in modules]
+    return [line[:] for line in lines for _ in range(scale)]
 
 
 def pgm(rows):
