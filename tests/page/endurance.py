@@ -4,8 +4,8 @@ import time
 from tests.page.bounds import drop
 from tests.page.photographs import camera_on
 from tests.page.pictures import noise
-from tests.page.stage import (ACTS, expect, is_seen, learn, on, performance, push, run, settle, soon, unfold, wait_for,
-                              write, written)
+from tests.page.stage import (ACTS, expect, is_seen, learn, on, performance, push, run, settle, soon, unfold, unseen,
+                              wait_for, write, written)
 
 MANY, BEFORE = 2000, 200  # the first ones fill what is kept of each size of symbol
 GROWTH = {"Nodes": 100, "JSEventListeners": 10, "JSHeapUsedSize": 1 << 20}
@@ -41,6 +41,7 @@ def measured():
     return {name: value for name, value in performance().items() if name in GROWTH}
 
 
+@unseen("visibility: hidden")
 def without_growth():
     learn()
     unfold("lesson", "details")

@@ -7,7 +7,7 @@ from tests.page.history import fields
 from tests.page.judge import asked_to_read, asked_to_write, in_lines, judged
 from tests.page.stage import (ACTS, COLLECT, QUIET, SHOWN, Keys, acting, as_program, changed, do, expect, find, fold,
                               grid, head, offset, on, push, put, run, settle, shown, soon, spelled, text_of, told,
-                              value_of, write, written)
+                              unseen, value_of, write, written)
 
 
 # ---- Keys and the mouse, as quickly as the browser takes them
@@ -35,10 +35,6 @@ def learning(*then):
     return act
 
 
-def turning(cell, side=10):
-    return lambda chain: chain.move_to_element_with_offset(find("symbol"), *offset(cell, side)).click()
-
-
 def typed_and_done_at_once():
     write("123456")
     run(COLLECT)
@@ -47,7 +43,7 @@ def typed_and_done_at_once():
         typed_then(text, learning(pressing("one-more")))
         expect(f"{text} and one codeword more", (shown()["state"], shown()["says"], len(changed(clean, grid()))),
                ("Read", text, 1))
-        typed_then(text, learning(turning(33)))
+        typed_then(text, learning(lambda it: it.move_to_element_with_offset(find("symbol"), *offset(33, 10)).click()))
         expect(f"{text} and a module", (shown()["says"], changed(clean, grid())), (text, [33]))
         typed_then(text, learning(pressing("one-more"), pressing("undo")))
         expect(f"{text}, one codeword more, undone", (shown()["why"], grid()), ("Nothing had to be corrected.", clean))
@@ -318,6 +314,7 @@ class Generator:
         return acts, {name: pane.end() for name, pane in self.panes.items()}, self.size
 
 
+@unseen("visibility: hidden")
 def bursts():
     write("123456")
     fold("details")  # to draw each codeword again would take most of the time

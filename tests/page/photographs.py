@@ -8,7 +8,7 @@ import subprocess
 from tests.page.bounds import drop
 from tests.page.pictures import noise, opened, png
 from tests.page.stage import (DEBIANS, attribute, expect, is_seen, on, push, put, run, settle, shown, soon, text_of,
-                              texts_of, wait_for, written)
+                              texts_of, unseen, wait_for, written)
 
 MAKER = pathlib.Path(__file__).resolve().parents[2] / "bench" / "photographs"
 SHARE = 17  # of each kind every so many: they have different sizes
@@ -30,6 +30,7 @@ def made(name, share, *more):
     return folder, json.loads((folder / "index.json").read_text())
 
 
+@unseen()
 def photographs():
     folder, pictures = made("photographs", SHARE)
     push("tab-read")

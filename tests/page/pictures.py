@@ -60,10 +60,8 @@ def chunks(width, height, lines):
 
 def opened(name, body):
     """Opens a picture, and returns what the page says about it."""
-    file = on.folder / name
-    file.write_bytes(body)
     run("document.getElementById('picture-hint').textContent = ''")
-    find("picture").send_keys(str(file))
+    give("picture", name, body)
     wait_for(lambda: text_of("picture-hint"))
     settle()
     return text_of("picture-hint")

@@ -13,7 +13,7 @@ from tests.page.judge import (SHAPES, asked_to_read, asked_to_write, content_of,
 from tests.page.pictures import opened, png, scene
 from tests.page.stage import (WAYS, Keys, agree, attribute, cells, changed, choose, click, coloured, drag, drawn,
                               expect, flat, grid, is_seen, push, put, reload, run, send, settle, shown, text_of,
-                              texts_of, turned, unfold, usable, value_of, write, written)
+                              texts_of, turned, unfold, unseen, usable, value_of, write, written)
 
 
 def agree_with_judge(name, line=None):
@@ -111,19 +111,20 @@ def sizes_by_shape():
     letters = "".join(f"\\x{byte:02X}" for byte in range(128, 256))
     lines = ["", "12", "123456", "A" * 9, "Ab1" * 5, "\\F0109506000134352", letters[:80], "9" * 130, "Z" * 48]
     lines.append(letters * 7)
-    for size in (*SHAPES, "8x18", "16x48", "24", "8x144", "26x64"):
-        for profile in (0, 1):
-            symbols = judged([asked_to_write(line, size, form) for line in lines for form in (0, 1)])
-            for k, line in enumerate(lines):
-                both = symbols[2 * k : 2 * k + 2]
-                write(line, profile, size)
-                told = [words_of(it) if "text" in it else "doesn’t fit" for it in both]
-                name = f"{line[:12]!r} in {size} under profile {profile}"
-                if "text" in both[profile]:
-                    expect(name, grid(), in_lines(both[profile]))
-                    expect(f"{name}: sides", [text_of("side-0"), text_of("side-1")], told)
-                else:
-                    expect(f"{name}: refused", (shown()["state"], refusal_in(size)), ("Nothing is read", True))
+    with unseen():
+        for size in (*SHAPES, "8x18", "16x48", "24", "8x144", "26x64"):
+            for profile in (0, 1):
+                symbols = judged([asked_to_write(line, size, form) for line in lines for form in (0, 1)])
+                for k, line in enumerate(lines):
+                    both = symbols[2 * k : 2 * k + 2]
+                    write(line, profile, size)
+                    told = [words_of(it) if "text" in it else "doesn’t fit" for it in both]
+                    name = f"{line[:12]!r} in {size} under profile {profile}"
+                    if "text" in both[profile]:
+                        expect(name, grid(), in_lines(both[profile]))
+                        expect(f"{name}: sides", [text_of("side-0"), text_of("side-1")], told)
+                    else:
+                        expect(f"{name}: refused", (shown()["state"], refusal_in(size)), ("Nothing is read", True))
     expect("one size is listed only where it is chosen", is_seen("size"), True)
     choose("shape", "any")
     expect("and else isn't", is_seen("size"), False)
@@ -150,6 +151,7 @@ ANSWERED = """
              marks: told.flatMap(({ mark }) => mark ?? []), untold: told.filter(isUntold).length };"""
 
 
+@unseen()
 def marks_of_every_size():
     """The marks that zint made, each as text: they are read as what was printed, with their ECIs and heads, and their
     codewords stand for that."""
@@ -169,6 +171,7 @@ def marks_of_every_size():
     expect("some have more than items", contents, 18)
 
 
+@unseen()
 def in_all_ways():
     """Rectangles that stand in each of the sixteen ways, as text and as pictures."""
     push("tab-read")
@@ -258,7 +261,8 @@ def rectangles_are_linked():
         expect(f"{name} after a reload", grid(), written_in("123456", name))
     for first in ("110100", "111101"):
         odd = first + written("123456").replace("\n", "")[6:]
-        put_grid("\n".join(odd[k : k + 10] for k in range(0, 100, 10)))
+        push("tab-read")
+        put("grid", "\n".join(odd[k : k + 10] for k in range(0, 100, 10)))
         linked()
         reload()
         expect(f"a square that begins {first}", flat(value_of("grid")), odd)
@@ -267,11 +271,6 @@ def rectangles_are_linked():
         go(f"#{fragment}")
         kinds = run("return [document.getElementById('shape').value, document.getElementById('grid').value]")
         expect(fragment, kinds, ["square", ""])
-
-
-def put_grid(text):
-    push("tab-read")
-    put("grid", text)
 
 
 # ---- Doubtful modules
@@ -352,7 +351,8 @@ def doubted_by_keys():
 def doubted_when_read():
     """A symbol that was opened, of which all checks are spent: no green verdict."""
     line, name = "123456", "10"
-    put_grid(written(line))
+    push("tab-read")
+    put("grid", written(line))
     push("tab-learn", "brush-doubt")
     first_bits = run("const { kind, bit } = mitsubadoor.mark.seen.map;"
                      "return [...kind.keys()].filter((k) => kind[k] === 1 && bit[k] === 1)")

@@ -28,8 +28,7 @@ WIDTH, HEIGHT = 1240, 1500  # of the window
 LEFT_OUT = {"structured append": 233, "reader programming": 234, "macro 05": 236, "macro 06": 237}
 
 # What the page shows, as plain text: the verdict (of a symbol that is made as of one that is read), the meters and the
-# facts. Elements are told from a text that looks
-# like some by their identifiers, which have a colour.
+# facts. Elements are told from a text that looks like some by their identifiers, which have a colour.
 SHOWN = """
     const text = (id) => document.getElementById(id).textContent, one = (where) => document.querySelector(where);
     const meters = [...document.querySelectorAll("#meters .count")].map((it) => it.textContent);
@@ -206,7 +205,7 @@ def address():
 
 
 def text_of(name):
-    return find(name).get_attribute("textContent").strip()
+    return run("return document.getElementById(arguments[0]).textContent", name).strip()
 
 
 def attribute(name, which):
@@ -499,13 +498,14 @@ def media(**features):
 
 
 @contextlib.contextmanager
-def unseen():
-    """Meanwhile nothing is laid out or painted, which takes most of the time where only texts are compared."""
-    run("document.documentElement.style.display = 'none'")
+def unseen(style="display: none"):
+    """Meanwhile nothing is laid out or painted, or, if it is only "visibility: hidden", painted: that takes most of the
+    time where only texts are compared."""
+    run("document.documentElement.style = arguments[0]", style)
     try:
         yield
     finally:
-        run("document.documentElement.style.display = ''")
+        run("document.documentElement.style = ''")
 
 
 def to_top():

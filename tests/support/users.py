@@ -10,9 +10,10 @@ CASES = ["documents", "library.test_systems.Here", "library.test_compiled.Compil
          *(f"python.test_{name}" for name in PYTHON),
          *(f"sampler.test_sampler.Sampler.test_{name}" for name in SAMPLER)]
 # Cases of these that take longest, which the gate alone runs.
-DEAR = {f"test_{name}" for name in ("alike", "beside", "beside_zint", "by_threads", "c_with_the_sanitisers", "cpp",
-                                    "drawn", "first_symbols", "found", "grids", "made_anew", "no_picture",
-                                    "round_trips", "rust", "side_by_side", "strange_grids")}
+DEAR = {f"test_{name}" for name in ("alike", "beside", "beside_zint", "by_threads", "c_with_the_sanitisers",
+                                    "charsets", "chosen", "cpp", "drawn", "files", "first_symbols", "forms", "found",
+                                    "grids", "in_words", "made_anew", "no_picture", "otherwise", "python",
+                                    "round_trips", "rust", "side_by_side", "strange_grids", "texts")}
 ROUNDS = 1_000
 UNPROVED = ("Nothing was proved here. What was tested is made of compiled/, which library/build made of the proved "
             "source; `make test` proves that, with the toolchain.")
