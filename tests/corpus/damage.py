@@ -15,7 +15,7 @@ def damaged(grid, counts, border):
     """A symbol with so many codewords of each block changed, and so many border modules turned over."""
     for block, count in enumerate(counts):
         grid = hurt(grid, block, count)
-    return grid.changed(border_of(grid.named, border))
+    return grid.changed(border_of(grid.named)[:border])
 
 
 def erased(grid, counts):

@@ -18,10 +18,7 @@
 
 enum { AREA = 1 << 20, LINE = 1 << 19, BEFORE = 1 << 14 };
 
-/* an area that ends at an inaccessible page */
-typedef struct {
-    uint8_t *end;
-} area;
+typedef uint8_t *area; /* the end of an area, before an inaccessible page */
 
 static area modules_area, doubt_area, items_area, marks_area, bytes_area, out_area;
 static uint8_t rubbish; /* what all of them hold before a call, for each request another byte */
@@ -31,21 +28,18 @@ static void die(const char *what) {
     exit(2);
 }
 
-static area new_area(void) {
-    area made = {(uint8_t *)guarded(AREA) + AREA};
-    return made;
-}
+static area new_area(void) { return (uint8_t *)guarded(AREA) + AREA; }
 
 /* so many bytes at the end of the area, which hold rubbish, as do those before them */
 static uint8_t *place_of(area whole, size_t size) {
     if (size + BEFORE > AREA)
         die("too much");
-    memset(whole.end - size - BEFORE, rubbish, size + BEFORE);
-    return whole.end - size;
+    memset(whole - size - BEFORE, rubbish, size + BEFORE);
+    return whole - size;
 }
 
 static void check_before(area whole, size_t size) {
-    for (uint8_t *at = whole.end - size - BEFORE; at < whole.end - size; at++)
+    for (uint8_t *at = whole - size - BEFORE; at < whole - size; at++)
         if (*at != rubbish)
             die(" written before the room");
 }
@@ -63,15 +57,15 @@ static char *word(void) {
 
 static uint16_t number(void) { return (uint16_t)strtoul(word(), NULL, 10); }
 
+static int digit_of(char letter) { return (letter & 15) + 9 * (letter > '9'); }
+
 /* bytes that are written as pairs of hexadecimal digits, or none as - */
 static const uint8_t *bytes_of(area whole, size_t *count) {
     const char *text = word();
     *count = *text == '-' ? 0 : strlen(text) / 2;
     uint8_t *bytes = place_of(whole, *count);
-    for (size_t i = 0; i < *count; i++) {
-        char digits[3] = {text[2 * i], text[2 * i + 1], 0};
-        bytes[i] = (uint8_t)strtoul(digits, NULL, 16);
-    }
+    for (size_t i = 0; i < *count; i++)
+        bytes[i] = (uint8_t)(16 * digit_of(text[2 * i]) + digit_of(text[2 * i + 1]));
     return bytes;
 }
 
@@ -119,11 +113,18 @@ static ecc200_head head_given(void) {
 
 /* ---- Answers */
 
+/* a number as printf prints it, which takes many times as long for each of so many */
+static void print_number(unsigned number) {
+    if (number > 9)
+        print_number(number / 10);
+    putchar('0' + (int)(number % 10));
+}
+
 /* numbers of one or two bytes with commas between them, or none as - */
 #define PRINT_NUMBERS(numbers, count)                                                                                  \
     do {                                                                                                               \
         for (size_t i = 0; i < (size_t)(count); i++)                                                                   \
-            printf("%s%d", i ? "," : "", (numbers)[i]);                                                                \
+            i ? putchar(',') : 0, print_number((numbers)[i]);                                                          \
         printf("%s", (count) ? "" : "-");                                                                              \
     } while (0)
 
@@ -142,20 +143,16 @@ static int is_fault(uint16_t code, const void *out, size_t arrays, size_t size) 
         return 0;
     printf("no %d %d %d", fault.code, fault.value, fault.place);
     for (size_t i = sizeof fault; i < size; i++)
-        if (((const uint8_t *)out)[i] != (i < arrays ? 0 : rubbish)) {
-            printf(", and something else written behind it");
-            break;
-        }
+        if (((const uint8_t *)out)[i] != (i < arrays ? 0 : rubbish))
+            return printf(", and something else written behind it"), 1;
     return 1;
 }
 
 /* the elements of an array past those that count are left as they were */
 static void check_rest(const void *from, const void *to) {
-    for (const uint8_t *at = (const uint8_t *)from; at < (const uint8_t *)to; at++)
-        if (*at != rubbish) {
-            printf(" written behind");
-            return;
-        }
+    const uint8_t *first = (const uint8_t *)from, *end = (const uint8_t *)to;
+    if (first < end && (*first != rubbish || memcmp(first, first + 1, (size_t)(end - first) - 1)))
+        printf(" written behind");
 }
 
 /* Rows, columns, modules and doubtful modules, as the calls take them. */
@@ -237,9 +234,10 @@ static void answer_read(void) {
 static void print_symbol(uint16_t code, const ecc200_symbol *out) {
     if (is_fault(code, out, offsetof(ecc200_symbol, modules), sizeof *out))
         return;
-    printf("rows %d columns %d modules ", out->rows, out->columns);
+    static char digits[ECC200_MOST_MODULES];
     for (int i = 0; i < out->rows * out->columns; i++)
-        printf("%d", out->modules[i]);
+        digits[i] = (char)('0' + out->modules[i]);
+    printf("rows %d columns %d modules %.*s", out->rows, out->columns, out->rows * out->columns, digits);
     check_rest(out->modules + out->rows * out->columns, out->modules + ECC200_MOST_MODULES);
 }
 
@@ -363,9 +361,7 @@ static void answer_text(void) {
     size_t said = ecc200_text(reading, room ? bytes : NULL, room, asked ? &gs1 : NULL);
     printf("%zu gs1 %d bytes ", said, gs1);
     PRINT_NUMBERS(bytes, said < room ? said : room);
-    for (size_t i = said; i < room; i++)
-        if (bytes[i] != rubbish)
-            die(" written behind the text");
+    check_rest(bytes + said, bytes + room);
     check_before(bytes_area, room);
 }
 
@@ -377,9 +373,7 @@ static void answer_items(void) {
     size_t said = ecc200_items(count ? bytes : NULL, count, gs1, room ? items : NULL, room);
     printf("%zu items ", said);
     PRINT_NUMBERS(items, said < room ? said : room);
-    for (size_t i = said; i < room; i++)
-        if (items[i] != 0x101 * rubbish)
-            die(" written behind the items");
+    check_rest(items + said, items + room);
     check_before(items_area, 2 * room);
 }
 

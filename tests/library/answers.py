@@ -8,7 +8,7 @@ def bytes_of(text):
 
 
 def items_of(text):
-    return [int(item) for item in text.split(",") if item != "-"]
+    return [] if text == "-" else list(map(int, text.split(",")))
 
 
 def marks_of(text):
@@ -78,7 +78,7 @@ class Answers:
     @staticmethod
     def is_grid(rows, columns, modules):
         """Whether rows say these numbers of rows and columns by themselves."""
-        return int(rows) * int(columns) == len(bytes_of(modules)) and (int(rows) > 0 or int(columns) == 0)
+        return int(rows) * int(columns) == len(modules.strip("-")) // 2 and (int(rows) > 0 or int(columns) == 0)
 
     @staticmethod
     def is_choice(shape, rows, columns):

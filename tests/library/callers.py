@@ -74,7 +74,8 @@ class Callers:
         for source in (os.path.join(HERE, "answers.rs"), self.source("ecc200.rs")):
             shutil.copy(source, folder)
         words = [*self.system.rustc()[0], "--edition", "2021", "-D", "warnings", os.path.join(folder, "answers.rs")]
-        program, problem = self.compiled("answers_rs", [*words, "-L", f"native={self.built}", "-l", "static=ecc200"])
+        checked = ["-O", "-C", "debug-assertions", "-L", f"native={self.built}", "-l", "static=ecc200"]
+        program, problem = self.compiled("answers_rs", [*words, *checked])
         yield "Rust: compiled", problem
         if program:
             yield from self.answered("Rust", program, list(self.interface.of_rust()))
@@ -100,11 +101,9 @@ class Callers:
     def in_python(self):
         """The Python module, by python_module.py, which says a line for each test."""
         own, other = (os.path.join(folder, "libecc200.so") for folder in (self.built, self.other()))
-        asked = self.made("requests.json")
-        with open(asked, "w", encoding="ascii") as file:
-            json.dump(self.interface.calls(), file)
+        asked = "".join(f"{request}\n{wanted}\n" for request, wanted in self.interface.calls())
         found = commands.environment(ECC200_LIBRARY=own, OTHER_LIBRARY=other, VERSION=self.interface.version,
-                                     REQUESTS=asked)
+                                     REQUESTS=places.wrote(asked, self.made("requests")))
         words = [self.system.python, "-m", "tests.library.python_module", self.source("python", "ecc200", "core.py")]
         done = commands.run(words, env=found, cwd=places.TOP, timeout=1800)
         for line in done.output.decode().splitlines():

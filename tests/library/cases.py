@@ -1,5 +1,7 @@
 """Requests to the library, each with the answer that is wanted: what model.py knows by itself, or what was worked out
 by hand. answers.c, answers.rs and answers.py answer them by the callers, a line for each."""
+import functools
+
 from tests.library.contents import USUAL, WIDE, content_of, content_words, said_by, symbol_of
 from tests.library.model import (ANY, DIGITS, EXTENDED, FIELD, FNC1, ONE, PLACES, RECTANGLE, SIZES, SIZE_OF, SQUARE,
                                  UPPER_SHIFT, ascii_words, base_256_words, bits_of, codewords, modules_of, padded,
@@ -42,8 +44,11 @@ class Symbol(list):
         return Symbol(modules, self.named)
 
 
+text_of = functools.cache(str)  # for which each number is written once
+
+
 def numbers(some):
-    return ",".join(map(str, some)) or "-"
+    return ",".join(map(text_of, some)) or "-"
 
 
 def hexadecimal(some):
@@ -172,14 +177,15 @@ def held_by(grid):
     return words_in(grid.size, grid)
 
 
-def border_of(named, count):
-    """So many modules of the border, from the end."""
-    return [i for i, (kind, _, _) in enumerate(PLACES[named]) if kind in (2, 3)][::-1][:count]
+@functools.cache
+def border_of(named):
+    """The modules of the border, from the end."""
+    return [i for i, (kind, _, _) in enumerate(PLACES[named]) if kind in (2, 3)][::-1]
 
 
 def with_bad_border(grid, count):
     """The same symbol with so many modules of the border turned over, from the end."""
-    return grid.changed(border_of(grid.named, count))
+    return grid.changed(border_of(grid.named)[:count])
 
 
 # ---- Each fault, with its number and its place
@@ -380,7 +386,7 @@ def sure(grid, items, usual, extent):
     """Any border is taken where each block leaves a correction unused, and else the usual one; here in the last block
     one is left, as two check codewords, and then one check codeword, or none, of damage that is known, or isn't."""
     size, named, block = grid.size, grid.named, grid.size.blocks - 1
-    checks, whole = size.checks_of_a_block, len(border_of(named, len(grid)))
+    checks, whole = size.checks_of_a_block, len(border_of(named))
     for erased, changed, is_sure in ((checks - 2, 0, True), (checks - 1, 0, False), (checks, 0, False), (0, 0, True),
                                      (0, size.limit - 1, True), (0, size.limit, False)):
         bad = hurt(grid, block, erased + changed)
@@ -433,7 +439,7 @@ def doubt(grid, items, extent):
         mended = [held[i] if i % size.blocks == block else word for i, word in enumerate(words)]
         yield inspect(bad, doubt=marks), inspection(named, held, mended, known)
         yield read(bad, 0, extent, doubt=marks), no(6, 0, block)
-    border = set(border_of(named, 7))
+    border = set(border_of(named)[:7])
     marks = [255 * (i in border) for i in range(len(grid))]
     yield read(with_bad_border(grid, 7), 0, extent, doubt=marks), reading(named, items)
     yield read(with_bad_border(grid, 8), 0, extent, doubt=marks), no(5, 1)

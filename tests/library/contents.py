@@ -296,6 +296,7 @@ def is_content(content):
     return is_head(content.head) and places == sorted(places) and all(0 <= it <= MOST_NUMBER for it, _ in content.marks)
 
 
+@functools.cache
 def content_words(content, profile=0):
     """The normal form of a content, without pads."""
     words, before, items = head_words(content.head), 0, list(content.items)

@@ -1,7 +1,7 @@
 """Tests the Python module: the requests of cases.py, and what only Python has: defaults, wrong types, numbers of any
-size, grids of many kinds, pictures, and which library is loaded. The argument is the path of core.py;
-ECC200_LIBRARY is the library, OTHER_LIBRARY one with another interface, VERSION the version of the library, REQUESTS a
-file of JSON with the requests and the answers that are wanted. It is a process of its own, since the module loads its
+size, grids of many kinds, pictures, and which library is loaded. The argument is the path of core.py; ECC200_LIBRARY is
+the library, OTHER_LIBRARY one with another interface, VERSION the version of the library, REQUESTS a file with the
+requests, each on a line before the answer that is wanted. It is a process of its own, since the module loads its
 library as it is imported, and prints a line of JSON for each test: its name, and what is wrong or null."""
 import array
 import ctypes
@@ -65,8 +65,8 @@ LIGHT = [bytes(10)] * 10
 def requests():
     answers = Answers(ecc200)
     with open(os.environ["REQUESTS"], encoding="ascii") as file:
-        asked = json.load(file)
-    for request, wanted in asked:
+        lines = file.read().split("\n")
+    for request, wanted in zip(lines[::2], lines[1::2]):
         got = answers.to(request)
         if got is not None:
             yield request[:80], got, wanted
