@@ -1,4 +1,4 @@
-/* The library ecc200 1.0.0, made by library/build of the proved source with rattle-kit-13f logic dac8208d650f15bf. Not written by hand: `make compiled` makes it anew. */
+/* The library ecc200 1.0.0, made by library/build of the proved source with the toolchain of logic dac8208d650f15bf. Not written by hand: `make compiled` makes it anew. */
 	.text
 	.p2align	5
 	.text

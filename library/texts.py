@@ -16,10 +16,10 @@ OF_CRATES = re.compile(r'^(attributes #\d+ = \{ )(?=.*"target-cpu"=)', re.M)
 BEGINNING = {retarget.TRIPLE: "\t.text\n\t.p2align\t5\n"}
 
 
-def head(version, toolchain):
+def head(version, logic):
     """The first line of each text."""
-    return (f"/* The library ecc200 {version}, made by library/build of the proved source with {toolchain}. "
-            "Not written by hand: `make compiled` makes it anew. */\n")
+    return (f"/* The library ecc200 {version}, made by library/build of the proved source with the toolchain of "
+            f"{logic}. Not written by hand: `make compiled` makes it anew. */\n")
 
 
 def prepared(text, triple, clang, flags):

@@ -34,7 +34,7 @@ class Compiled(Case):
         version = re.escape(places.text_of("packaging", "version").strip())
         for triple, text in texts_in(COMPILED).items():
             first = text.partition(b"\n")[0].decode()
-            self.assertRegex(first, rf"^/\* The library ecc200 {version}, .* with rattle-kit-\w+ logic \w+\.", triple)
+            self.assertRegex(first, rf"^/\* The library ecc200 {version}, .* with the toolchain of logic \w+\.", triple)
             self.row(triple, re.findall(rb"\n\t\.(?:file|ident)\b|/(?:home|root|tmp|work)/", text), [])
 
     def test_a_byte_is_enough(self):
