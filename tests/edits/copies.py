@@ -44,7 +44,7 @@ OPENS_IMPL = r"()impl(?:<.*?>)? (?:([\w:]+)(?:<.*>)? for )?(\w+)"
 IS_GENERIC = r"(?:\bfn \w+|\bimpl)<(?!'\w+(?:, '\w+)*>)"
 PARTED = re.compile(r"\n\n(?=\S)")
 # The answer to a goal that the right body needs none for, and the tactics by which the toolchain finds it there.
-TACTICS = {"": "search rules fits 100", " by search": "search rules fits 500",
+TACTICS = {"": "search rules fits 100", " by search": "search rules depth 2",
            " by steps": "search (rules, common_steps) fits 500", " by check": None}
 SEARCHED = """\
 use Rattle.std.proofs.Common.{{rules}}

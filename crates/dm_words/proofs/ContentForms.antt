@@ -62,7 +62,9 @@ units_marks : (before : ℕ) (us : List (Piece (List Item))) (rest : List (Piece
     → said_marks before (whats (units_then us rest)) ≡ said_marks (before + length (gathered us)) (whats rest)
 units_marks before [] rest = (let e : before ≡ before + 0 = omega arith in ap (λ (n : ℕ). said_marks n (whats rest)) e)
 units_marks before (u ∷ us) rest =
-    grind (arith, nat_tests, gathered, length-append, said_marks, whats, units_marks (before + length u.what) us rest)
+    let e : before + length u.what + length (gathered us) ≡ before + length (u.what ++ gathered us) =
+    omega (arith, length-append u.what (gathered us)) in
+    units_marks (before + length u.what) us rest ∙ ap (λ (n : ℕ). said_marks n (whats rest)) e
 
 -- Items with marks are what these parts say, whose words are these.
 pub record HasParts (before : ℕ) (items : List Item) (marks : List Mark) (words : List ℕ) : Type 0 where
@@ -76,6 +78,13 @@ pub record HasParts (before : ℕ) (items : List Item) (marks : List Mark) (word
 pub marks_within : (least most : ℕ) (marks : List Mark) → AreMarks least most marks → least ≤ most
 marks_within least most [] are = are
 marks_within least most (m ∷ marks) are = (let r = marks_within m.place most marks are.2 in omega (arith, are.0, r))
+
+-- A mark stands where it is said, before those behind it.
+marks_from : (m : Mark) (at : ℕ) (rest : List Said) (marks : List Mark) → at ≡ m.place
+    → said_marks m.place rest ≡ marks → said_marks at (Number m.number ∷ rest) ≡ m ∷ marks
+marks_from m at rest marks there are =
+    ap (λ (k : ℕ). (let q : Mark = record { place = k; number = m.number } in q) ∷ said_marks k rest) there
+    ∙ ap (λ (ms : List Mark). m ∷ ms) are
 
 -- The ASCII form of items is what units say.
 ascii_parts : (before : ℕ) (items : List Item) (rest : List (Piece Said)) (words : List ℕ) (marks : List Mark)
@@ -93,6 +102,19 @@ ascii_parts before items rest words marks fit free whole are =
           ∙ ap (λ (r : List Item). said_marks (before + length r) (whats rest)) (sym u.items) ∙ are;
     }
 
+-- Items in ASCII, a mark behind them, and what such parts say behind that.
+mark_then : (before : ℕ) (items : List Item) (m : Mark) (rest : List Item) (marks : List Mark) (words : List ℕ)
+    → AreItems items → IsFree (record { words = mark_words m; what = Number m.number })
+    → before + length items ≡ m.place → HasParts m.place rest marks words
+    → HasParts before (items ++ rest) (m ∷ marks) (ascii items ++ (mark_words m ++ words))
+mark_then before items m rest marks words fit free there r =
+    let p : Piece Said = record { words = mark_words m; what = Number m.number } in
+    let h = ascii_parts before items (p ∷ r.parts) (mark_words m ++ words) (m ∷ marks) fit (free, r.free)
+    (ap (λ (w : List ℕ). mark_words m ++ w) r.whole)
+    (marks_from m (before + length items) (whats r.parts) marks there r.marks_are) in
+    subst (λ (i : List Item). HasParts before (items ++ i) (m ∷ marks) (ascii items ++ (mark_words m ++ words)))
+    r.items_are h
+
 -- Items with marks are what parts say, whose words are the items in ASCII from mark to mark, and the marks.
 pub parts_of : (before : ℕ) (items : List Item) (marks : List Mark) → AreItems items
     → AreMarks before (before + length items) marks → HasParts before items marks (ascii_with_marks before items marks)
@@ -102,22 +124,15 @@ parts_of before items [] fit are =
 parts_of before items (m ∷ marks) fit are =
     let n = m.place - before in
     let within = marks_within m.place (before + length items) marks are.2 in
-    let long : length (take n items) ≡ n = omega (arith, length-take n items, within, are.0) in
-    let there : before + length (take n items) ≡ m.place = omega (arith, long, are.0) in
+    let there : before + length (take n items) ≡ m.place = omega (arith, length-take n items, within, are.0) in
     let last : before + length items ≡ m.place + length (drop n items) =
     omega (arith, length-drop n items, within, are.0) in
     let fits = all-take IsItem n items fit in
     let r = parts_of m.place (drop n items) marks fits.1 (subst (λ (k : ℕ). AreMarks m.place k marks) last are.2) in
-    let p : Piece Said = record { words = mark_words m; what = Number m.number } in
-    let free : IsFree p =
-    λ place after. plainly.mark (designator m.number) m.number (designator_says m.number are.1) refl refl in
-    let marked : said_marks (before + length (take n items)) (whats (p ∷ r.parts)) ≡ m ∷ marks =
-    ap (λ (k : ℕ). (let q : Mark = record { place = k; number = m.number } in q) ∷ said_marks k (whats r.parts)) there
-    ∙ ap (λ (ms : List Mark). m ∷ ms) r.marks_are in
-    let h = ascii_parts before (take n items) (p ∷ r.parts) (mark_words m
-    ++ ascii_with_marks m.place (drop n items) marks) (m ∷ marks) fits.0 (free, r.free)
-    (ap (λ (w : List ℕ). mark_words m ++ w) r.whole) marked in
-    rw (ap (λ (i : List Item). take n items ++ i) r.items_are ∙ take-append-drop n items) at h
+    subst (λ (i : List Item). HasParts before i (m ∷ marks) (ascii_with_marks before items (m ∷ marks)))
+    (take-append-drop n items)
+    (mark_then before (take n items) m (drop n items) marks (ascii_with_marks m.place (drop n items) marks) fits.0
+    (λ place after. plainly.mark (designator m.number) m.number (designator_says m.number are.1) refl refl) there r)
 
 -- With pads the normal form has as many codewords as asked for.
 pub content_form_count : (profile : Profile) (l : ContentView) (count : ℕ) → length (content_form profile l) ≤ count

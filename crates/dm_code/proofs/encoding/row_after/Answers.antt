@@ -4,6 +4,7 @@ use Rattle.std.proofs.lemmas.List.{get_or_append_left, get_or-take, get_or-drop}
 use Rattle.std.proofs.Math.Seq.{take-length}
 use Rattle.gf301.specs.Field.{◌⊕◌, ◌⊗◌}
 use Rattle.dm_code.proofs.Register.{get_or-push_zero}
+use Rattle.std.proofs.lemmas.Grind.{common_steps}
 use Rattle.dm_code.proofs.encoding.row_after.Goals as goal
 
 pub returns-clause-each : goal.returns-clause-each
@@ -23,3 +24,15 @@ returns-clause-each g c = λ i h.
     ∙ ap (λ u. get_or u i 0) (c.copy_from_slice.ensures.after
     ∙ ap (λ n. take n (drop 1 t)) (let q : 79 ≡ length (drop 1 t) = omega (arith, rest) in q) ∙ take-length (drop 1 t))
     ∙ get_or-drop 1 t i 0 ∙ ap (λ n. get_or t n 0) (let q : 1 + i ≡ suc i = omega arith in q))
+
+pub slice_bounds-row-end-2 : goal.slice_bounds-row-end-2
+slice_bounds-row-end-2 g c = grind (arith, common_steps)
+
+pub slice_bounds-add_scaled-end : goal.slice_bounds-add_scaled-end
+slice_bounds-add_scaled-end g c = grind (arith, common_steps)
+
+pub add_scaled-requires-clause-enough : goal.add_scaled-requires-clause-enough
+add_scaled-requires-clause-enough g c = grind (arith, common_steps)
+
+pub add_scaled-requires-clause-lanes : goal.add_scaled-requires-clause-lanes
+add_scaled-requires-clause-lanes g c = grind (arith, common_steps)

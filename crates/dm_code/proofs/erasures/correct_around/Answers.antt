@@ -8,6 +8,7 @@ use Rattle.dm_code.proofs.Bytes.{bytes_places}
 use Rattle.dm_code.proofs.CleanWords.{IsRewritten, rewritten}
 use Rattle.dm_code.proofs.EachErased.{AreWeighedAway, changed_same, nothing_back, nothing_left, restored}
 use Rattle.dm_code.proofs.EachErased.{weighed_places}
+use Rattle.std.proofs.lemmas.Grind.{common_steps}
 use Rattle.dm_code.proofs.erasures.correct_around.Goals as goal
 
 pub returns-in_err-near-clause-near : goal.returns-in_err-near-clause-near
@@ -139,3 +140,21 @@ returns-clause-changed g c =
     filled.word ∙ c.give_back.ensures.restored k x places (r.is_near.long ∙ sym (ap length te)
     ∙ sym c.divide_changed.ensures.long ∙ sym (ap length ue)) same in
     c.in_ok-near.ensures.changed ∙ sym (ap (distance_but q w) whole ∙ r.distance)
+
+pub returns-then-is_empty-clause-near : goal.returns-then-is_empty-clause-near
+returns-then-is_empty-clause-near g c = grind (arith, common_steps)
+
+pub returns-then-is_empty-clause-changed : goal.returns-then-is_empty-clause-changed
+returns-then-is_empty-clause-changed g c = grind (arith, common_steps)
+
+pub give_back-requires-clause-whole : goal.give_back-requires-clause-whole
+give_back-requires-clause-whole g c = grind (arith, common_steps)
+
+pub give_back-requires-clause-within : goal.give_back-requires-clause-within
+give_back-requires-clause-within g c = grind (arith, common_steps)
+
+pub give_back-requires-clause-locator : goal.give_back-requires-clause-locator
+give_back-requires-clause-locator g c = grind (arith, common_steps)
+
+pub give_back-requires-clause-odd : goal.give_back-requires-clause-odd
+give_back-requires-clause-odd g c = grind (arith, common_steps)

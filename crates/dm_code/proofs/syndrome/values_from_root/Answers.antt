@@ -4,6 +4,7 @@ use lib.Lanes.{zip2}
 use Rattle.gf301.specs.Field.{◌⊗◌, power, raise}
 use Rattle.gf301.specs.Polynomial.{value, values_from}
 use Rattle.dm_code.proofs.SyndromeLanes.{lanes_part, take_parts}
+use Rattle.std.proofs.lemmas.Grind.{common_steps}
 use Rattle.dm_code.proofs.syndrome.values_from_root.Goals as goal
 
 pub loop-part-preserved : goal.loop-part-preserved
@@ -22,3 +23,6 @@ loop-part-preserved c =
     ∙ lanes_part (take n w) r xs 32 l
     ∙ ap (λ p. map (value p) xs) (sym (take_parts n 32 w)
     ∙ ap (λ m. take m w) (let e : n + 32 ≡ length w % 32 + 32 * (c.loop-part.part + 1) = omega arith in e))
+
+pub returns : goal.returns
+returns c = grind (arith, common_steps)

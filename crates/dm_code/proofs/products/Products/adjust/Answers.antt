@@ -7,3 +7,6 @@ returns-clause-products c = c.add_scaled.ensures.counted
 
 pub returns-clause-grown : goal.returns-clause-grown
 returns-clause-grown c = λ is i. grind (arith, common_steps)
+
+pub returns-clause-low : goal.returns-clause-low
+returns-clause-low c = grind (arith, common_steps)

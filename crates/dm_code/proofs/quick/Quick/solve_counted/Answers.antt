@@ -8,6 +8,7 @@ use Rattle.dm_code.proofs.BerlekampMassey.{IsCorrected, restated, coefficients_t
 use Rattle.dm_code.proofs.BerlekampMassey.{search_taken, taken_product, search_kept, search_same, search_grown}
 use Rattle.dm_code.proofs.BerlekampMassey.{search_refuses, search_results, search_exact}
 use Rattle.dm_code.proofs.Counts.{step_products, all_products}
+use Rattle.std.proofs.lemmas.Grind.{common_steps}
 use Rattle.dm_code.proofs.quick.Quick.solve_counted.Goals as goal
 use Rattle.dm_code.proofs.quick.Quick.solve_counted.Goals.{then-discrepancy-ne0+else-degree-t, else-discrepancy-ne0}
 
@@ -200,3 +201,6 @@ returns-clause-exact c =
     search_exact (search_taken c.loop-n.invariant.search p) (omega arith)
     (omega (arith, ap length c.copy_of-locator.ensures, c.coefficients-coefficients.ensures.count))
     c.evaluator_of-evaluator.ensures.long (returns-clause-least c)
+
+pub returns-then-degree-t-clause-products : goal.returns-then-degree-t-clause-products
+returns-then-degree-t-clause-products c = grind (arith, common_steps)

@@ -3,6 +3,7 @@ use Rattle.dm_layout.proofs.Names.{wide_matrix}
 use Rattle.std.proofs.Common.{bit_and}
 use Rattle.dm_layout.proofs.symbols.OuterRows.{IsNext, opened_first, opened_more, opened_all}
 use Rattle.dm_layout.proofs.symbols.Rows.{weight, prefix_cell}
+use Rattle.std.proofs.lemmas.Grind.{common_steps, widths}
 use Rattle.dm_layout.proofs.symbols.drawing.outer_row.Goals as goal
 use Rattle.dm_layout.proofs.symbols.drawing.outer_row.Goals.{In-loop-region}
 
@@ -51,3 +52,9 @@ returns c =
       border = out.border;
       width = out.narrow;
     }
+
+pub nonzero_rem-outer : goal.nonzero_rem-outer
+nonzero_rem-outer c = grind (arith, common_steps)
+
+pub overflow_sub-outer : goal.overflow_sub-outer
+overflow_sub-outer c = grind (arith, common_steps, widths)

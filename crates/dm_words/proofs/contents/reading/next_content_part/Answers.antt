@@ -1,6 +1,7 @@
 use Rattle.dm_words.proofs.Names.{◌≡◌, ◌+◌, ◌<◌, ◌∷◌, ap, arith, drop, eci_word, length, length-drop, length-take, Mark}
 use Rattle.dm_words.proofs.Names.{rules, take}
 use Rattle.dm_words.proofs.EciCounts.{mark_fits}
+use Rattle.std.proofs.lemmas.Grind.{common_steps}
 use Rattle.dm_words.proofs.contents.reading.next_content_part.Goals as goal
 
 pub mark_part-requires-clause-room : goal.mark_part-requires-clause-room
@@ -10,3 +11,6 @@ mark_part-requires-clause-room c =
     mark_fits (length c.args.marks.now) _ _ _ (c.requires.marks c.in-Wide.is) c.requires.so_far.marks
     (omega (arith, ap length begins, length-drop c.args.at c.args.words.now)) begins in
     omega (arith, fits, length-take {A = Mark})
+
+pub mark_part-requires-clause-in_range : goal.mark_part-requires-clause-in_range
+mark_part-requires-clause-in_range c = grind (arith, common_steps)

@@ -4,6 +4,7 @@ use Rattle.dm_words.proofs.Names.{spelled, IsItem, before_words, parts_cost, mar
 use Rattle.dm_words.proofs.ContentWritten.{nothing_said, texts_turn, texts_end}
 use Rattle.dm_words.proofs.MarkedCosts.{forth, behind_few}
 use Rattle.dm_words.proofs.PlainForms.{sign_turn, sign_end}
+use Rattle.std.proofs.lemmas.Grind.{common_steps}
 use Rattle.dm_words.proofs.smallest.contents.write_texts.Goals as goal
 
 pub loop-k-init : goal.loop-k-init
@@ -90,3 +91,24 @@ returns-clause-sign c =
     let v = c.loop-k.invariant in
     sign_end _ _ _ (spelled c.write_text-2.ensures.parts.parts) _ _ _ _ _ c.loop-k-test.false v.first v.sign
     c.write_text-2.ensures.sign c.write_text-2.ensures.parts.whole
+
+pub overflow_sub-end : goal.overflow_sub-end
+overflow_sub-end c = grind (arith, common_steps)
+
+pub slice_bounds-write_text-count : goal.slice_bounds-write_text-count
+slice_bounds-write_text-count c = grind (arith, common_steps)
+
+pub slice_bounds-write_text-start : goal.slice_bounds-write_text-start
+slice_bounds-write_text-start c = grind (arith, common_steps)
+
+pub add_mark_words-requires-clause-assigned : goal.add_mark_words-requires-clause-assigned
+add_mark_words-requires-clause-assigned c = grind (arith, common_steps)
+
+pub add_mark_words-requires-clause-room : goal.add_mark_words-requires-clause-room
+add_mark_words-requires-clause-room c = grind (arith, common_steps)
+
+pub write_text-requires-2-clause-message : goal.write_text-requires-2-clause-message
+write_text-requires-2-clause-message c = grind (arith, common_steps)
+
+pub write_text-requires-2-clause-budget : goal.write_text-requires-2-clause-budget
+write_text-requires-2-clause-budget c = grind (arith, common_steps)

@@ -7,6 +7,7 @@ use Rattle.dm_words.proofs.SegmentBudget.{rest_is}
 use Rattle.dm_words.proofs.PartBudget.{IsPairAt, one_paid, pair_paid, run_paid, edifact_paid, segment_paid, rest_paid}
 use Rattle.dm_words.proofs.UnitWritten.{length-item_words, digit_byte, one_written, two_written}
 use Rattle.dm_words.proofs.SignParts.{one_passes, two_passes, other_passes}
+use Rattle.std.proofs.lemmas.Grind.{common_steps}
 use Rattle.dm_words.proofs.smallest.parts.write_part.Goals as goal
 use Rattle.dm_words.proofs.smallest.parts.write_part.Goals.{After-byte}
 
@@ -180,3 +181,6 @@ returns-in-Rest-clause-sign c =
 
 pub returns-in-Edifact-clause-usual : goal.returns-in-Edifact-clause-usual
 returns-in-Edifact-clause-usual c = λ usual. absurd (false≢true usual)
+
+pub write_segment-requires-clause-message : goal.write_segment-requires-clause-message
+write_segment-requires-clause-message c = grind (arith, common_steps)
