@@ -123,8 +123,11 @@ static void print_number(unsigned number) {
 /* numbers of one or two bytes with commas between them, or none as - */
 #define PRINT_NUMBERS(numbers, count)                                                                                  \
     do {                                                                                                               \
-        for (size_t i = 0; i < (size_t)(count); i++)                                                                   \
-            i ? putchar(',') : 0, print_number((numbers)[i]);                                                          \
+        for (size_t i = 0; i < (size_t)(count); i++) {                                                                 \
+            if (i)                                                                                                     \
+                putchar(',');                                                                                          \
+            print_number((numbers)[i]);                                                                                \
+        }                                                                                                              \
         printf("%s", (count) ? "" : "-");                                                                              \
     } while (0)
 
