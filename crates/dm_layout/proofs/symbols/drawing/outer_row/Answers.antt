@@ -53,8 +53,5 @@ returns c =
       width = out.narrow;
     }
 
-pub nonzero_rem-outer : goal.nonzero_rem-outer
-nonzero_rem-outer c = grind (arith, common_steps)
-
 pub overflow_sub-outer : goal.overflow_sub-outer
 overflow_sub-outer c = grind (arith, common_steps, widths)

@@ -1,5 +1,4 @@
 use Rattle.dm_layout.proofs.Names.{◌≡◌, ◌%◌, arith}
-use Rattle.std.proofs.lemmas.Grind.{common_steps}
 use Rattle.dm_layout.proofs.symbols.laying.put_corner.Goals as goal
 
 pub returns-then-columns-eq0-clause-cells : goal.returns-then-columns-eq0-clause-cells
@@ -8,12 +7,3 @@ returns-then-columns-eq0-clause-cells g c = λ r q.
     let columns : c.args.columns % 8 ≡ 0 = omega arith in
     rw (height, columns)
     (rw c.cells-then-columns-eq0.ensures.value at (c.put_cells-then-columns-eq0.ensures.cells r q))
-
-pub returns-then-columns-eq4-clause-cells : goal.returns-then-columns-eq4-clause-cells
-returns-then-columns-eq4-clause-cells g c = grind (arith, common_steps)
-
-pub returns-then-columns-eq6-clause-cells : goal.returns-then-columns-eq6-clause-cells
-returns-then-columns-eq6-clause-cells g c = grind (arith, common_steps)
-
-pub returns-then-columns-eq4-2-clause-cells : goal.returns-then-columns-eq4-2-clause-cells
-returns-then-columns-eq4-2-clause-cells g c = grind (arith, common_steps)

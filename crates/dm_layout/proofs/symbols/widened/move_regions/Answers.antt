@@ -2,7 +2,6 @@ use Rattle.dm_layout.proofs.Names.{◌≡◌, ℕ, ◌+◌, ◌*◌, ◌<◌, �
 use Rattle.dm_layout.proofs.Names.{symbol_line, mapped_cell, SizeEntry, mapping_columns, mapping_rows, whole_row}
 use Rattle.dm_layout.proofs.symbols.Sizes.{region_ends}
 use Rattle.dm_layout.proofs.symbols.WidenedRows.{line_here, moved_more}
-use Rattle.std.proofs.lemmas.Grind.{common_steps}
 use Rattle.dm_layout.proofs.symbols.widened.move_regions.Goals as goal
 
 pub put-requires-clause-inner : goal.put-requires-clause-inner
@@ -38,6 +37,3 @@ loop-row-preserved g c =
           (omega (arith, i.count, below, c.requires.high)) c.matrix_row-inner.ensures.width cells c.put.ensures
           i.moved;
     }
-
-pub returns-clause-moved : goal.returns-clause-moved
-returns-clause-moved g c = grind (arith, common_steps)

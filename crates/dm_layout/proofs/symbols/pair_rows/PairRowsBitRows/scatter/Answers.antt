@@ -3,7 +3,6 @@ use Rattle.dm_layout.proofs.Names.{length-set, is_dark_bit, LOW_TWO_BITS, LOW_TH
 use Rattle.dm_layout.proofs.Names.{look_in}
 use Rattle.dm_layout.proofs.symbols.LaidRows.{row_scattered}
 use Rattle.dm_layout.proofs.symbols.Pairs.{over_is, pair_masks_at}
-use Rattle.std.proofs.lemmas.Grind.{common_steps}
 use Rattle.dm_layout.proofs.symbols.pair_rows.PairRowsBitRows.scatter.Goals as goal
 
 pub returns-clause-cells : goal.returns-clause-cells
@@ -36,6 +35,3 @@ returns-clause-cells c = λ r q l.
     ∙ row_scattered 256 two three pair_masks_at refl olds c.args.slots.now x row c.args.column r q
     (λ i h. ap (λ (n : ℕ). is_dark_bit n i) (c.from_bytes-codewords.ensures ∙ c.row.ensures.number))
     (omega (arith, c.requires.row)) l
-
-pub returns-clause-room : goal.returns-clause-room
-returns-clause-room c = grind (arith, common_steps)
