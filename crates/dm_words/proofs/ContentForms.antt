@@ -4,7 +4,7 @@ use Rattle.dm_words.proofs.Names.{ap, ◌∙◌, append_assoc, arith, length-app
 use Rattle.dm_words.proofs.Names.{length-take, length-drop, take-append-drop, Wide, Item, Mark, Profile, IsItem}
 use Rattle.dm_words.proofs.Names.{IsAsciiUnit, ascii, Piece, spelled, gathered, whats, AreJoined, padded, IsPlainSaid}
 use Rattle.dm_words.proofs.Names.{designator, ContentView, AreMarks, Said, Items, Number, IsContentPart, said_items}
-use Rattle.dm_words.proofs.Names.{said_marks, mark_words, ascii_with_marks, content_form, nat_tests}
+use Rattle.dm_words.proofs.Names.{said_marks, mark_words, ascii_with_marks, content_form}
 use Rattle.dm_words.specs.Plain as plainly
 use Rattle.dm_words.proofs.AsciiWords.{AreItems, units_of}
 use Rattle.dm_words.proofs.Designators.{designator_says}
