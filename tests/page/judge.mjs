@@ -3,6 +3,7 @@
 // what a grid says, { isMap, rows, columns } for the modules of each codeword, { isTable } for the sizes. Each is
 // answered by a line.
 import { readFileSync } from "node:fs";
+import { createInterface } from "node:readline";
 import { Library } from "../../web/library.mjs";
 
 const lib = await Library.load(readFileSync(process.argv[2]));
@@ -21,5 +22,5 @@ function answer(question) {
   if (question.isMap) return lib.map(question).modules;
   return question.content ? write(question) : read(question);
 }
-const lines = readFileSync(0, "utf8").split("\n").filter(Boolean);
-console.log(lines.map((line) => JSON.stringify(answer(JSON.parse(line)))).join("\n"));
+for await (const line of createInterface({ input: process.stdin }))
+  console.log(JSON.stringify(answer(JSON.parse(line))));

@@ -1,6 +1,7 @@
 """What the page's library says of symbols, without the page: in Node.js, by judge.mjs."""
 import functools
 import json
+import os
 import subprocess
 
 from tests import corpus
@@ -13,11 +14,19 @@ ONE = 4
 SMALLEST = 2  # the form
 
 
+@functools.cache
+def judge_of(process):
+    """What answers in a process for as long as that lives."""
+    return subprocess.Popen(JUDGE, stdin=subprocess.PIPE, stdout=subprocess.PIPE, text=True, encoding="utf-8")
+
+
 def judged(questions):
     """What the library answers to questions, without the page."""
-    lines = "\n".join(map(json.dumps, questions))
-    done = subprocess.run(JUDGE, input=lines.encode(), stdout=subprocess.PIPE, timeout=300, check=True)
-    return [json.loads(line) for line in done.stdout.splitlines()]
+    judge, answers = judge_of(os.getpid()), []
+    for question in questions:
+        print(json.dumps(question), file=judge.stdin, flush=True)
+        answers.append(json.loads(judge.stdout.readline()))
+    return answers
 
 
 def content_of(line, head=None):
