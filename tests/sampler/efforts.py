@@ -61,11 +61,13 @@ class Efforts:
 
     def test_large_work(self):
         """A large picture, which takes long to open, is allowed less, but for a photograph, which is allowed more."""
+        def share(rows, low, high):
+            return bisect_left(range(high), True, low, key=lambda percent: searches.of(rows, 1, percent)[1] == "whole")
         searches = Searches(self)
-        small, sheet, photograph = shares = [
-            bisect_left(range(1000), True, 1, key=lambda percent: searches.of(rows, 1, percent)[1] == "whole")
-            for rows in ([b"\xe6" * 2000] * 1000, [b"\xe6" * 4000] * 2190, [b"\xe6" * 4000] * 3000)]
-        self.row(f"of their usual work 2, 8.8 and 12 megapixels take {shares} %",
+        small = share([b"\xe6" * 2000] * 1000, 1, 1000)
+        sheet = share([b"\xe6" * 4000] * 2190, 4 * small, 6 * small)
+        photograph = share([b"\xe6" * 4000] * 3000, sheet * 4 // 5, sheet * 6 // 5)
+        self.row(f"of their usual work 2, 8.8 and 12 megapixels take {small}, {sheet} and {photograph} %",
                  (4.6 * small < sheet < 5.2 * small, 0.9 * sheet < photograph < 1.06 * sheet), (True, True))
 
     def test_small(self):

@@ -1,7 +1,7 @@
 """How much work commands are, whatever the machine is and whatever else it does: the processor time of the processes
 that end meanwhile, over that of a known piece of work, which is done before and after."""
 import contextlib
-import os
+import resource
 import subprocess
 import sys
 
@@ -19,13 +19,18 @@ class Work:
 
 def spent():
     """Seconds of processor time of the processes that have ended."""
-    return sum(os.times()[2:4])
+    return sum(resource.getrusage(resource.RUSAGE_CHILDREN)[:2])
+
+
+def took(call):
+    """The seconds of the processes that end in a call."""
+    begun = spent()
+    call()
+    return spent() - begun
 
 
 def known():
-    begun = spent()
-    subprocess.run(KNOWN, check=True)
-    return spent() - begun
+    return took(lambda: subprocess.run(KNOWN, check=True))
 
 
 @contextlib.contextmanager
@@ -35,3 +40,8 @@ def measured():
     yield work
     work.seconds = spent() - begun
     work.pieces = work.seconds / max(before, known())
+
+
+def least(call):
+    """The least seconds that the processes of a call take in five turns: what else is run makes them more."""
+    return min(took(call) for _ in range(5))
