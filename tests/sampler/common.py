@@ -19,6 +19,7 @@ def missing():
 
 class SamplerCase(Rows):
     sources = places.path("sampler")
+    made = None  # a folder in which the sampler lies already that is to be tested
 
     @classmethod
     def setUpClass(cls):
@@ -26,8 +27,8 @@ class SamplerCase(Rows):
         if cls.lacking:
             return
         cls.room, cls.builds = cls.folder_of_class(), []
-        cls.plain = os.path.join(cls.room, "plain")
-        cls.sampler = cls.built(cls.plain, "-Werror")
+        cls.plain = cls.made or os.path.join(cls.room, "plain")
+        cls.sampler = os.path.join(cls.made, "dm_sample") if cls.made else cls.built(cls.plain, "-Werror")
         cls.sanitised = None
 
     @classmethod
