@@ -1,10 +1,7 @@
 """The library on this system and on others, each of these by its emulator: the requests of cases.py by each of its
 callers, hostile arguments, threads, the stack, names, and the examples, in Python on ARM where Debian's can be had."""
 import functools
-import glob
 import os
-import platform
-import subprocess
 import unittest
 
 from tests.library import conduct, shuffled
@@ -149,37 +146,23 @@ class OnTarget(OnSystem):
         self.assertIsNone(shuffled.wrong(self.system, self.folder()))
 
 
-ARM_PROGRAMS = ("debootstrap", "dpkg-deb", "qemu-aarch64")
-# What runs it, by which Python calls itself as well.
+# What runs it, by which Python calls itself as well; what it compiles is kept, since each start needs that.
 ARM_COMMAND = """#!/bin/sh
-PYTHONHOME=/usr exec qemu-aarch64 -0 "$0" -L '{root}' '{root}/usr/bin/python3' "$@"
+export PYTHONHOME=/usr PYTHONDONTWRITEBYTECODE= PYTHONPYCACHEPREFIX='{root}/compiled'
+exec qemu-aarch64 -0 "$0" -L '{root}' '{root}/usr/bin/python3' "$@"
 """
 
 
 def arm_python(folder):
-    """Makes a root with Debian's Python for arm64 and all that it stands on, and gives the path of a command that runs
-    it by an emulator, or None and why it can't be made. Nothing outside the folder changes."""
-    root = os.path.join(folder, "root")
-    release = platform.freedesktop_os_release().get("VERSION_CODENAME", "stable")
-    words = ["debootstrap", "--foreign", "--arch=arm64", "--variant=minbase", "--include=python3", release, root]
-    status, said = commands.said(words, env=commands.environment(PATH=needs.PATH))
+    """Unpacks Debian's Python for arm64 and all that it stands on, and gives the path of a command that runs it by an
+    emulator, or None and why it can't be had. Nothing outside the folder changes."""
+    root, made = os.path.join(folder, "root"), os.path.join(folder, "python3")
+    status, said = needs.debian(root, ["python3"], "--variant=extract", "--architectures=arm64", "--skip=check/qemu")
     if status:
-        return None, f"debootstrap: {said.strip().splitlines()[-1:]}"
-    # (it has unpacked what a root stands on, and would install the others by programs of the root)
-    with open(os.path.join(root, "debootstrap", "base"), encoding="ascii") as names:
-        for name in names.read().split():
-            for archive in glob.glob(f"{glob.escape(root)}/var/cache/apt/archives/{name}_*.deb"):
-                unpack(archive, root)
-    made = os.path.join(folder, "python3")
+        return None, said.strip().splitlines()[-1:]
     places.wrote(ARM_COMMAND.format(root=root), made)
     os.chmod(made, 0o755)
     return made, None
-
-
-def unpack(archive, root):
-    """Unpacks a package, through the links that stand in the place of folders."""
-    with subprocess.Popen(["dpkg-deb", "--fsys-tarfile", archive], stdout=subprocess.PIPE) as given:
-        subprocess.run(["tar", "-x", "--keep-directory-symlink", "-C", root], stdin=given.stdout, check=True)
 
 
 @target("aarch64-unknown-linux-gnu")
@@ -187,7 +170,7 @@ class AArch64(OnTarget, Case):
     """64-bit ARM, under Linux."""
 
     def test_python(self):
-        self.skip_for(needs.lacking(*ARM_PROGRAMS) or os.geteuid() and "debootstrap has to be run by root")
+        self.skip_for(needs.lacking("mmdebstrap", "qemu-aarch64") or os.geteuid() and "root alone can unpack Debian")
         self.system.python, problem = arm_python(self.folder())
         self.skip_for(problem and f"Python for arm64 can't be had ({problem})")
         self.all_sound(self.callers().in_python())

@@ -1,7 +1,5 @@
 """A Debian root without the toolchain: behind `git clone` one command reads a label, another tests what is built."""
-import contextlib
 import os
-import platform
 import re
 import subprocess
 import unittest
@@ -10,52 +8,36 @@ from tests.support import commands, needs, places, work
 from tests.support.case import Case
 
 WANTED = re.search(r"`apt install (gcc [^`]*)`", places.text_of("README.md"))[1].split()
-PATH = "/usr/sbin:/usr/bin:/sbin:/bin"
 LABEL = "(01)09521234543213(17)271231(10)ABC123\n"
 SYMBOL = "16 x 16: ]d4, 5 bytes, ECI 26 at 0\n"  # the last line of the example in C
 USES = ["cd /tmp", "ecc200 read /m/out/first/label.png",
         "python3 -c 'import ecc200; print(ecc200.decode(\"/m/out/first/label.png\")[0].text)'",
         "cc -std=c11 -Wall -Wextra -Werror ~/.local/share/doc/libecc200-dev/examples/example.c -I ~/.local/include "
         "-L ~/.local/lib -lecc200 -o example", "./example | tail -n 1"]
+# How a command of the shell is run in a root, which has the system's processes and devices then.
+INSIDE = ('mount -t proc proc "$0/proc" && mount --rbind /dev "$0/dev" && '
+          'exec chroot "$0" /usr/bin/env -i PATH=/usr/sbin:/usr/bin:/sbin:/bin HOME=/root /bin/sh -c "$1"')
 # Pieces of work, of which a minute and three of an idle machine are some 600 and 1,800.
 MOST_TO_BUILD, MOST_TO_CHECK = 1_000, 3_000
 
 
-@contextlib.contextmanager
-def mounted(root):
-    """A root with the system's processes, devices and terminals."""
-    done = []
-    try:
-        for words in (["-t", "proc", "proc", f"{root}/proc"], ["--bind", "/dev", f"{root}/dev"],
-                      ["--bind", "/dev/pts", f"{root}/dev/pts"]):
-            if commands.said(["mount", *words])[0]:
-                raise unittest.SkipTest("nothing can be mounted here")
-            done.append(words[-1])
-        yield
-    finally:
-        for place in reversed(done):
-            commands.said(["umount", place])
-
-
-@needs.programs("debootstrap", "git")
+@needs.programs("mmdebstrap", "git")
 @unittest.skipUnless(os.geteuid() == 0, "only root can make a root")
 class Clean(Case):
     @classmethod
     def setUpClass(cls):
         cls.root = os.path.join(cls.folder_of_class(), "root")
-        release = platform.freedesktop_os_release().get("VERSION_CODENAME", "stable")
-        words = ["debootstrap", "--variant=minbase", f"--include=git,{','.join(WANTED)}", release, cls.root]
-        status, told = commands.said(words, env=commands.environment(PATH=needs.PATH))
+        status, told = needs.debian(cls.root, ["git", *WANTED], "--variant=minbase")
         if status:
             raise unittest.SkipTest(f"Debian can't be had ({told.strip().splitlines()[-1:]})")
-        cls.enterClassContext(mounted(cls.root))
+        if commands.said(["unshare", "--mount", "true"])[0]:
+            raise unittest.SkipTest("nothing can be mounted here")
         subprocess.run(["git", "clone", "--quiet", "--bare", places.TOP, f"{cls.root}/source.git"], check=True)
 
     def done(self, words):
         """Status, output, and the work of a command of the shell in the root."""
-        inside = ["chroot", self.root, "/usr/bin/env", "-i", f"PATH={PATH}", "HOME=/root", "/bin/sh", "-c", words]
         with work.measured() as took:
-            status, told = commands.said(inside, timeout=3600)
+            status, told = commands.said(["unshare", "--mount", "sh", "-c", INSIDE, self.root, words], timeout=3600)
         return status, told, took
 
     def test_a_label_is_read_and_what_was_built_is_tested(self):

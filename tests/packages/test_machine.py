@@ -51,9 +51,9 @@ class Machine(Packed):
         self.row("a machine without it", (status, "the toolchain (rt) isn't on the path" in seen), (127, True))
         add("rt", "exit 0")
         status, seen = run(words, env=env)
-        wanted = {"0022", "LC_ALL=C.UTF-8", *(f"{name}={value}" for name, value in kept.items())}
+        wanted = {"0022", "LC_ALL=C.UTF-8", "MIMALLOC_PURGE_DELAY=-1", *(f"{name}={kept[name]}" for name in kept)}
         self.row("make test sees", (status, {it for it in seen.splitlines() if not it.startswith("PWD=")}), (0, wanted))
-        wanted = {"g++", "clang", "rustc-web", "qemu-user", "wine", "debootstrap",
+        wanted = {"g++", "clang", "rustc-web", "qemu-user", "wine", "mmdebstrap",
                   *(it.package for it in targets.TARGETS.values())}
         self.row("compilers and emulators that aren't installed", wanted - set(read(told).decode().split()), set())
         planned = run(["env", "-i", f"PATH={os.environ['PATH']}", "make", "-n", "-C", TOP, "test"])[1].splitlines()

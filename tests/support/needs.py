@@ -3,6 +3,7 @@ import fcntl
 import functools
 import importlib.util
 import os
+import platform
 import shutil
 import unittest
 
@@ -107,3 +108,11 @@ def made(target):
         fcntl.flock(lock, fcntl.LOCK_EX)
         status, output = commands.said(["make", "-C", places.TOP, target], timeout=7200)
     return None if status == 0 else f"make {target}: status {status}: {output[-2000:]}"
+
+
+def debian(root, packages, *options):
+    """Makes a root of this release of Debian with packages and what they stand on, by mmdebstrap, which has to be run
+    by root. Gives its status and what it says."""
+    release = platform.freedesktop_os_release().get("VERSION_CODENAME", "stable")
+    words = ["mmdebstrap", *options, f"--include={','.join(packages)}", release, root]
+    return commands.said(words, env=commands.environment(PATH=PATH))
