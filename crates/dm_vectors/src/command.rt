@@ -138,7 +138,8 @@ fn ends(outcome: Result<Tally, RunFault>, status: u8, line: &str) -> bool {
 }
 
 /// A run that answers and refuses so many has this status, and no line.
-fn tally_ends(answered: u64, refused: u64, status: u8) -> bool {
+fn tally_ends(row: &(u64, u64, u8)) -> bool {
+    let (answered, refused, status) = *row;
     ends(Ok(Tally { answered, refused }), status, "")
 }
 
@@ -174,8 +175,8 @@ static CALL_FAULTS: [(CallFault, u8, &str); 2] = [
 
 #[test]
 fn runs_end_with_status_and_line(rt: HostRuntime) {
-    for (answered, refused, status) in &TALLIES {
-        holds(&rt, tally_ends(*answered, *refused, *status));
+    for row in &TALLIES {
+        holds(&rt, tally_ends(row));
     }
     for (fault, line) in &RUN_FAULTS {
         holds(&rt, ends(Err(*fault), 3, line));

@@ -7,34 +7,29 @@ use dm_words::{Item, Message};
 /// Room for the codewords of a symbol.
 pub(crate) type Codewords = ArrayVec<u8, MOST_GRID_CODEWORDS>;
 
-/// Adds an item, where there is room.
-fn add(message: &mut Message, item: Item) {
-    let _room = message.push(item);
-}
-
-/// The message of one byte so many times.
+/// The message of one byte so many times, as far as there is room.
 pub(crate) fn of_many(byte: u8, count: usize) -> Message {
     let mut message = Message::new();
     for _ in 0..count {
-        add(&mut message, Item::Byte(byte));
+        let _room = message.push(Item::Byte(byte));
     }
     message
 }
 
-/// The message of these bytes.
+/// The message of these bytes, as far as there is room.
 pub(crate) fn of_bytes(bytes: &[u8]) -> Message {
     let mut message = Message::new();
     for byte in bytes {
-        add(&mut message, Item::Byte(*byte));
+        let _room = message.push(Item::Byte(*byte));
     }
     message
 }
 
-/// The message of these items.
+/// The message of these items, as far as there is room.
 pub(crate) fn of_items(items: &[Item]) -> Message {
     let mut message = Message::new();
     for item in items {
-        add(&mut message, *item);
+        let _room = message.push(*item);
     }
     message
 }
@@ -52,11 +47,6 @@ pub(crate) fn are_bytes(items: &[Item], bytes: &[u8]) -> bool {
     true
 }
 
-/// Whether the message has exactly these bytes.
-pub(crate) fn has_bytes(message: &Message, bytes: &[u8]) -> bool {
-    are_bytes(message.items(), bytes)
-}
-
 /// Whether each codeword of the list is this one.
 pub(crate) fn are_all(list: &[u8], word: u8) -> bool {
     for found in list {
@@ -65,9 +55,4 @@ pub(crate) fn are_all(list: &[u8], word: u8) -> bool {
         }
     }
     true
-}
-
-/// Adds a codeword, where there is room.
-pub(crate) fn add_word(list: &mut Codewords, word: u8) {
-    let _room = list.try_push(word);
 }

@@ -5,7 +5,7 @@ use crate::calls::{
     grid_of, grid_with, is_dark_at, lift, normal, normal_as, read, side_of, write, write_as,
 };
 use crate::claims::holds;
-use crate::messages::{Codewords, add_word, has_bytes, of_bytes, of_many};
+use crate::messages::{Codewords, are_bytes, of_bytes, of_many};
 use dm_layout::Grid;
 use dm_symbol::{Profile, ReadFault, usual_limit};
 use dm_words::WordFault;
@@ -31,7 +31,7 @@ fn is_grid<E>(outcome: &Result<Grid, E>, grid: &Grid) -> bool {
 fn says(grid: &Grid, limit: u16, text: &[u8], border_faults: u16) -> bool {
     match read(grid, limit) {
         Ok(reading) => {
-            has_bytes(&reading.message, text)
+            are_bytes(reading.message.items(), text)
                 && reading.corrected.as_slice() == [0].as_slice()
                 && reading.border_faults == border_faults
         }
@@ -59,7 +59,8 @@ static NORMAL_GRIDS: [(&[u8], &[u8], &[u8; 100]); 3] = [
 ];
 
 /// Whether the text's normal grid has these codewords and these cells, and says the text.
-fn is_normal_grid(text: &[u8], words: &[u8], cells: &[u8; 100]) -> bool {
+fn is_normal_grid(row: &(&[u8], &[u8], &[u8; 100])) -> bool {
+    let (text, words, cells) = *row;
     let grid = drawn(cells);
     is_grid(&write(&of_bytes(text)), &grid)
         && lift(&grid).list() == words
@@ -68,8 +69,8 @@ fn is_normal_grid(text: &[u8], words: &[u8], cells: &[u8; 100]) -> bool {
 
 #[test]
 fn writes_normal_grids(rt: HostRuntime) {
-    for (text, words, cells) in &NORMAL_GRIDS {
-        holds(&rt, is_normal_grid(text, words, cells));
+    for row in &NORMAL_GRIDS {
+        holds(&rt, is_normal_grid(row));
     }
 }
 
@@ -141,7 +142,7 @@ fn damaged(grid: &Grid, most: usize) -> Grid {
     let mut list = Codewords::new();
     for word in lift(grid).list() {
         let wrong = list.len() < most;
-        add_word(&mut list, if wrong { *word ^ 255 } else { *word });
+        let _room = list.try_push(if wrong { *word ^ 255 } else { *word });
     }
     grid_of(side_of(grid), &list)
 }
@@ -153,7 +154,7 @@ fn is_corrected() -> bool {
     };
     match read(&damaged(&grid, 42), 13) {
         Ok(reading) => {
-            has_bytes(&reading.message, &[b'7'; 408])
+            are_bytes(reading.message.items(), &[b'7'; 408])
                 && reading.corrected.as_slice() == [21, 21].as_slice()
         }
         Err(_) => false,

@@ -1,7 +1,7 @@
 //! Codewords and the messages that they spell, or the faults with which they are refused: `dm_words`.
 
 use crate::claims::holds;
-use crate::messages::{Codewords, add_word, are_all, are_bytes, has_bytes, of_items, of_many};
+use crate::messages::{Codewords, are_all, are_bytes, of_items, of_many};
 use arrayvec::ArrayVec;
 use dm_words::*;
 
@@ -18,14 +18,6 @@ fn message(words: &[u8]) -> Result<Message, WordFault> {
         return Err(WordFault::LeftOut(0, 0));
     }
     message_of(words)
-}
-
-/// Whether the codewords spell these bytes.
-fn spells_bytes(words: &[u8], bytes: &[u8]) -> bool {
-    match message(words) {
-        Ok(message) => has_bytes(&message, bytes),
-        Err(_) => false,
-    }
 }
 
 /// Whether the codewords spell these items.
@@ -53,16 +45,10 @@ fn reads_fnc1(rt: HostRuntime) {
     }
 }
 
-/// Whether the codewords are refused with this fault.
-fn is_refused(words: &[u8], fault: WordFault) -> bool {
-    match message(words) {
-        Ok(_) => false,
-        Err(found) => found == fault,
-    }
-}
-
-/// Data codewords in ASCII, and the bytes that they spell.
-static ASCII: &[u8] = b"\
+/// Data codewords and the bytes that they spell.
+static SPELLED: [&[u8]; 6] = [
+    // ASCII.
+    b"\
 =
 1 128 =\x00\x7F
 130 229 =0099
@@ -74,10 +60,9 @@ static ASCII: &[u8] = b"\
 129 175 70 =
 66 74 78 =AIM
 235 66 129 =\xC1
-";
-
-/// Runs of C40, whole ones and those that the end of the symbol or an unlatch ends, and the bytes that they spell.
-static C40: &[u8] = b"\
+",
+    // Runs of C40, whole ones and those that the end of the symbol or an unlatch ends.
+    b"\
 230 91 11 =AIM
 230 91 11 91 11 91 11 66 =AIMAIMAIMA
 230 90 241 =AI
@@ -90,10 +75,9 @@ static C40: &[u8] = b"\
 230 91 =Z
 230 91 11 91 =AIMZ
 230 91 11 230 =AIM
-";
-
-/// Runs of C40 with shifts, and the bytes that they spell.
-static C40_SHIFTS: &[u8] = b"\
+",
+    // Runs of C40 with shifts.
+    b"\
 230 10 255 =\xC1
 230 12 183 =aA
 230 10 254 =\xB9
@@ -101,10 +85,9 @@ static C40_SHIFTS: &[u8] = b"\
 230 0 1 194 60 =\x00\x1F\x20\x20
 230 6 66 87 184 9 138 137 195 =!/:@[_
 230 12 131 194 60 =`\x7F\x20\x20
-";
-
-/// Runs of Text, and the bytes that they spell.
-static TEXT: &[u8] = b"\
+",
+    // Runs of Text.
+    b"\
 239 91 11 =aim
 239 12 183 =Aa
 239 19 110 = 09
@@ -113,32 +96,28 @@ static TEXT: &[u8] = b"\
 239 6 66 87 184 9 138 137 195 =!/:@[_
 239 10 244 =\xA0
 239 12 131 6 171 16 187 194 60 =`AZ{\x7F\x20\x20
-";
-
-/// Runs of X12, and the bytes that they spell.
-static X12: &[u8] = b"\
+",
+    // Runs of X12.
+    b"\
 238 0 43 =\r*>
 238 91 11 254 66 =AIMA
 238 19 110 = 09
 238 93 192 =AZZ
-";
-
-/// Segments of Base 256, and the bytes that they spell.
-static BASE_256: &[u8] = b"\
+",
+    // Segments of Base 256.
+    b"\
 231 45 65 =\x80
 231 44 65 =\x80
 66 231 193 =A
 231 44 =
-";
+",
+];
 
 #[test]
 fn reads_messages(rt: HostRuntime) {
-    holds(&rt, lines::are_spelled(Extent::Usual, ASCII));
-    holds(&rt, lines::are_spelled(Extent::Usual, C40));
-    holds(&rt, lines::are_spelled(Extent::Usual, C40_SHIFTS));
-    holds(&rt, lines::are_spelled(Extent::Usual, TEXT));
-    holds(&rt, lines::are_spelled(Extent::Usual, X12));
-    holds(&rt, lines::are_spelled(Extent::Usual, BASE_256));
+    for lines in &SPELLED {
+        holds(&rt, lines::are_spelled(Extent::Usual, lines));
+    }
 }
 
 /// Codewords that spell no message, and the fault with which they are refused.
@@ -212,7 +191,7 @@ static REFUSED: [(&[u8], WordFault); 59] = [
 /// Whether the codewords of each row are refused with its fault.
 fn all_are_refused(rows: &[(&[u8], WordFault)]) -> bool {
     for (words, fault) in rows {
-        if !is_refused(words, *fault) {
+        if message(words).err() != Some(*fault) {
             return false;
         }
     }

@@ -4,49 +4,38 @@ use super::samples::{WORD, codeword, data_and_checks, part, put, turned_over, wi
 use crate::calls::generator_of;
 use crate::claims::holds;
 use arrayvec::ArrayVec;
-use dm_code::{BeyondLimit, Elimination, Fixed, KeySolver, Quick, correct, correct_to};
+use dm_code::{BeyondLimit, Elimination, Fixed, Quick, correct, correct_to};
 use dm_layout::table;
 
-/// What `correct` gives with a solver, and None where there is no such block.
-fn outcome_of<S: KeySolver>(
-    solver: &S,
-    word: &[u8],
-    k: usize,
-) -> Option<Result<Fixed, BeyondLimit>> {
+/// What `correct` gives with either solver, and None where they differ or there is no such block.
+fn outcome_of(word: &[u8], k: usize) -> Option<Result<Fixed, BeyondLimit>> {
     if k < 1 || 68 < k || word.len() <= k || 255 < word.len() {
         return None;
     }
-    Some(correct(solver, word, k))
+    let outcome = correct(&Quick, word, k);
+    if outcome == correct(&Elimination, word, k) {
+        Some(outcome)
+    } else {
+        None
+    }
 }
 
-/// Whether the outcome is this word, with this count of changed places.
-fn is_fixed(outcome: &Option<Result<Fixed, BeyondLimit>>, word: &[u8], changed: usize) -> bool {
-    match outcome {
+/// Whether a damaged word is corrected to a word with either solver, with a count of changed places.
+fn is_corrected(damaged: &[u8], word: &[u8], k: usize, changed: usize) -> bool {
+    match outcome_of(damaged, k) {
         Some(Ok(fixed)) => fixed.word.as_slice() == word && usize::from(fixed.changed) == changed,
         _ => false,
     }
 }
 
-/// Whether the outcome is that no codeword is near.
-fn is_beyond(outcome: &Option<Result<Fixed, BeyondLimit>>) -> bool {
-    matches!(outcome, Some(Err(BeyondLimit)))
-}
-
-/// Whether a damaged word is corrected to a word with either solver, with a count of changed places.
-fn is_corrected(damaged: &[u8], word: &[u8], k: usize, changed: usize) -> bool {
-    is_fixed(&outcome_of(&Elimination, damaged, k), word, changed)
-        && is_fixed(&outcome_of(&Quick, damaged, k), word, changed)
-}
-
 /// Whether a damaged word is refused with either solver.
 fn is_refused(damaged: &[u8], k: usize) -> bool {
-    is_beyond(&outcome_of(&Elimination, damaged, k)) && is_beyond(&outcome_of(&Quick, damaged, k))
+    matches!(outcome_of(damaged, k), Some(Err(BeyondLimit)))
 }
 
 /// Whether both solvers agree for a word of a block.
 pub(super) fn are_corrected_alike(word: &[u8], k: usize) -> bool {
-    let outcome = outcome_of(&Quick, word, k);
-    outcome.is_some() && outcome == outcome_of(&Elimination, word, k)
+    outcome_of(word, k).is_some()
 }
 
 #[test]
@@ -59,18 +48,28 @@ fn two_errors_with_five_checks_are_corrected_and_three_refused(rt: HostRuntime) 
     holds(&rt, is_refused(&[0, 0, 0, 114, 25, 5, 88, 102], 5));
 }
 
+/// Words with five checks, and how many places of each are changed. None where no codeword is near.
+static IN_TURN: [([u8; 8], Option<u8>); 3] = [
+    ([0, 0, 186, 114, 25, 5, 88, 102], Some(2)),
+    (WORD, Some(0)),
+    ([0, 0, 0, 114, 25, 5, 88, 102], None),
+];
+
+/// Whether so many places of the word are changed, and the target then takes the codeword that is near.
+fn takes(target: &mut ArrayVec<u8, 255>, row: &([u8; 8], Option<u8>)) -> bool {
+    match correct_to(&Quick, &row.0, 5, target) {
+        Ok(changed) => row.1 == Some(changed)
+            && (changed == 0 || target.as_slice() == WORD.as_slice()),
+        Err(BeyondLimit) => row.1.is_none(),
+    }
+}
+
 #[test]
 fn a_target_takes_the_codeword_that_is_near(rt: HostRuntime) {
     let mut fixed = ArrayVec::new();
-    let damaged = [0, 0, 186, 114, 25, 5, 88, 102];
-    holds(&rt, correct_to(&Quick, &damaged, 5, &mut fixed) == Ok(2));
-    holds(&rt, fixed.as_slice() == WORD.as_slice());
-    holds(&rt, correct_to(&Quick, &WORD, 5, &mut fixed) == Ok(0));
-    let beyond = [0, 0, 0, 114, 25, 5, 88, 102];
-    holds(
-        &rt,
-        correct_to(&Quick, &beyond, 5, &mut fixed) == Err(BeyondLimit),
-    );
+    for row in &IN_TURN {
+        holds(&rt, takes(&mut fixed, row));
+    }
 }
 
 /// Whether the first `length` codewords of a word are corrected with as many wrong codewords as can be, at every
@@ -150,15 +149,10 @@ fn errors_at_each_three_places_with_five_checks_are_refused(rt: HostRuntime) {
     }
 }
 
-/// Whether the codeword with seven checks is refused with the codewords turned over whose bits these places have.
-fn is_refused_with(word: &[u8; 255], places: u16) -> bool {
-    is_refused(part(&turned_over(word, places), 0, 12), 7)
-}
-
-/// Whether errors at each four places are refused.
+/// Whether a codeword with seven checks is refused with errors at each four places.
 fn are_all_four_refused(word: &[u8; 255]) -> bool {
     for places in 0..4096u16 {
-        if places.count_ones() == 4 && !is_refused_with(word, places) {
+        if places.count_ones() == 4 && !is_refused(part(&turned_over(word, places), 0, 12), 7) {
             return false;
         }
     }

@@ -35,7 +35,7 @@ pub(super) fn put(list: &mut [u8; 255], first: usize, codewords: &[u8]) {
 }
 
 /// Codewords that follow one another by a rule: each is so many times the last one, and `step` more.
-fn following(first: u8, factor: u8, step: u8) -> [u8; 255] {
+pub(super) fn following(first: u8, factor: u8, step: u8) -> [u8; 255] {
     let mut codeword = first;
     let mut list = [0; 255];
     for place in 0..255 {
@@ -43,11 +43,6 @@ fn following(first: u8, factor: u8, step: u8) -> [u8; 255] {
         codeword = codeword.wrapping_mul(factor).wrapping_add(step);
     }
     list
-}
-
-/// Data codewords each of which is 5 times the last one, and `step` more.
-pub(super) fn pseudorandom(first: u8, step: u8) -> [u8; 255] {
-    following(first, 5, step)
 }
 
 /// A codeword with `count` data codewords and k check codewords, at the first `count` + k places.

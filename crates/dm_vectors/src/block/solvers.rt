@@ -69,14 +69,6 @@ fn is_key(found: &Option<Key>, locator: &[u8], evaluator: &[u8]) -> bool {
     }
 }
 
-/// Whether two solutions are equal as polynomials.
-fn is_like(found: &Option<Key>, other: &Option<Key>) -> bool {
-    match other {
-        Some(key) => is_key(found, &key.locator, &key.evaluator),
-        None => found.is_none(),
-    }
-}
-
 /// Whether the counts of a solution for k syndromes and the limit t are within their bounds: from above always, and
 /// from below: a product for each syndrome where there is a pair, a product where there is none, and an inversion where
 /// a locator other than 1 was found.
@@ -103,7 +95,8 @@ fn is_counted(s: &[u8], t: usize) -> bool {
 }
 
 /// Whether both solvers find this pair, by counts within their bounds.
-fn have_key(s: &[u8], t: usize, locator: &[u8], evaluator: &[u8]) -> bool {
+fn have_key(row: &(&[u8], usize, &[u8], &[u8])) -> bool {
+    let (s, t, locator, evaluator) = *row;
     is_key(&solved(&Elimination, s, t), locator, evaluator)
         && is_key(&solved(&Quick, s, t), locator, evaluator)
         && is_counted(s, t)
@@ -118,7 +111,11 @@ fn have_no_key(s: &[u8], t: usize) -> bool {
 fn are_alike(word: &[u8], k: usize) -> bool {
     let s = syndromes_of(word, k);
     let t = s.len() / 2;
-    let alike = is_like(&solved(&Quick, &s, t), &solved(&Elimination, &s, t));
+    let found = solved(&Quick, &s, t);
+    let alike = match solved(&Elimination, &s, t) {
+        Some(key) => is_key(&found, &key.locator, &key.evaluator),
+        None => found.is_none(),
+    };
     alike && !word.is_empty() && s.len() == k && is_counted(&s, t)
 }
 
@@ -134,8 +131,8 @@ static PAIRS: [(&[u8], usize, &[u8], &[u8]); 5] = [
 
 #[test]
 fn both_solvers_find_the_least_pair(rt: HostRuntime) {
-    for (s, t, locator, evaluator) in &PAIRS {
-        holds(&rt, have_key(s, *t, locator, evaluator));
+    for row in &PAIRS {
+        holds(&rt, have_key(row));
     }
 }
 
@@ -219,14 +216,14 @@ static COUNTS: [(&[u8], usize, u32, u32); 7] = [
 ];
 
 /// Whether `Quick` counts so many products and inversions.
-fn counts(s: &[u8], t: usize, products: u32, inversions: u32) -> bool {
-    let (_found, meter) = solved_with_counts(s, t);
-    meter.products == products && meter.inversions == inversions
+fn counts(row: &(&[u8], usize, u32, u32)) -> bool {
+    let (_found, meter) = solved_with_counts(row.0, row.1);
+    meter.products == row.2 && meter.inversions == row.3
 }
 
 #[test]
 fn products_and_inversions_are_counted(rt: HostRuntime) {
-    for (s, t, products, inversions) in &COUNTS {
-        holds(&rt, counts(s, *t, *products, *inversions));
+    for row in &COUNTS {
+        holds(&rt, counts(row));
     }
 }

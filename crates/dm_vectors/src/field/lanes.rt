@@ -33,10 +33,14 @@ fn powers_of_sixteen_lanes(rt: HostRuntime) {
     holds(&rt, products.to_array() == MIXED);
 }
 
+/// Whether sixteen lanes of a factor become this product.
+fn is_scaled(a: u8, b: u8, product: u8) -> bool {
+    scale(a, u8x16::splat(b)).to_array() == [product; 16]
+}
+
 #[test]
 fn multiples_of_sixteen_lanes_and_of_lists(rt: HostRuntime) {
-    holds(&rt, scale(66, u8x16::splat(62)).to_array() == [122; 16]);
-    holds(&rt, scale(251, u8x16::splat(111)).to_array() == [20; 16]);
+    holds(&rt, is_scaled(66, 62, 122) && is_scaled(251, 111, 20));
     holds(&rt, scale(2, power_row(1, 0)).to_array() == powers(1));
     let mut sum = [1; 32];
     add_scaled(&mut sum, 66, &[62; 40]);

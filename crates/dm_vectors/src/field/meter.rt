@@ -9,9 +9,9 @@ fn counts_to_its_end() -> bool {
         products: 4_294_967_293,
         inversions: 4_294_967_294,
     };
-    meter.mul(Gf(66), Gf(62)) == Gf(122)
-        && meter.mul(Gf(0), Gf(7)) == Gf(0)
-        && meter.inverse(Gf(2)) == Gf(150)
+    meter.mul(Gf(66), Gf(62)).0 == 122
+        && meter.mul(Gf(0), Gf(7)).0 == 0
+        && meter.inverse(Gf(2)).0 == 150
         && meter.products == u32::MAX
         && meter.inversions == u32::MAX
 }

@@ -29,9 +29,9 @@ static ROWS: [[u16; 8]; GRID_SIZE_COUNT] = [
     [104, 16, 24, 96, 816, 336, 6, 28],
 ];
 
-/// What the methods of the size give, in the order of a row.
-fn row_of(size: Size) -> [u16; 8] {
-    [
+/// Whether the methods of the size give this row, and its side gives the size.
+fn has_row(size: Size, row: &[u16; 8]) -> bool {
+    let found = [
         size.side(),
         size.regions(),
         size.region_side(),
@@ -40,17 +40,15 @@ fn row_of(size: Size) -> [u16; 8] {
         size.check_count(),
         size.blocks(),
         size.limit(),
-    ]
+    ];
+    found == *row && Size::of_side(row[0]) == Some(size)
 }
 
 #[test]
 fn every_row_is_that_of_the_standard(rt: HostRuntime) {
     let sizes = table();
     for i in 0..GRID_SIZE_COUNT {
-        holds(
-            &rt,
-            row_of(sizes[i]) == ROWS[i] && Size::of_side(ROWS[i][0]) == Some(sizes[i]),
-        );
+        holds(&rt, has_row(sizes[i], &ROWS[i]));
     }
 }
 

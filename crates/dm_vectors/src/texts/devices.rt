@@ -103,7 +103,9 @@ type AskedRead = (usize, Result<usize, Failed>, u64, u32);
 
 /// Reads of a device, one after another: how many are good before each one that fails, how many find the end, and the
 /// reads. At a terminal more bytes may come after the end.
-static READS: [(u32, u32, &[AskedRead]); 3] = [
+type Reads = (u32, u32, &'static [AskedRead]);
+
+static READS: [Reads; 3] = [
     (
         1,
         0,
@@ -143,17 +145,14 @@ fn reads_bytes<I: Source>(source: &mut I, read: AskedRead) -> bool {
     as_told && place == [first, 0, 0, 0]
 }
 
-/// Whether the reads of a source over this device have these outcomes.
-fn have_read_outcomes(
-    mut device: Device<'_>,
-    ends: u32,
-    calls: &Cell<u32>,
-    asked: &[AskedRead],
-) -> bool {
-    device.ends = ends;
+/// Whether the reads of a source over a device that fails in this way have their outcomes.
+fn have_read_outcomes(kind: ErrorKind, row: &Reads) -> bool {
+    let (calls, flushes) = (Cell::new(0), Cell::new(0));
+    let mut device = Device::new(kind, row.0, &calls, &flushes);
+    device.ends = row.1;
     let mut source = FromRead::new(device);
     let mut is_good = source.failures() == 0;
-    for read in asked {
+    for read in row.2 {
         is_good = reads_bytes(&mut source, *read) && calls.get() == read.3 && is_good;
     }
     is_good
@@ -162,10 +161,8 @@ fn have_read_outcomes(
 #[test]
 fn reads_of_devices(rt: HostRuntime) {
     for kind in KINDS {
-        for (good, ends, asked) in READS {
-            let (calls, flushes) = (Cell::new(0), Cell::new(0));
-            let device = Device::new(kind, good, &calls, &flushes);
-            holds(&rt, have_read_outcomes(device, ends, &calls, asked));
+        for row in &READS {
+            holds(&rt, have_read_outcomes(kind, row));
         }
     }
 }
@@ -208,7 +205,9 @@ type AskedWrite = (
 
 /// Writes to a device, one after another: how many are good before each one that fails, the most bytes that one takes,
 /// whether a flush fails, and the writes and flushes.
-static WRITES: [(u32, usize, bool, &[AskedWrite]); 4] = [
+type Writes = (u32, usize, bool, &'static [AskedWrite]);
+
+static WRITES: [Writes; 4] = [
     (
         1,
         1,
@@ -276,16 +275,15 @@ fn has_state<O: Sink>(sink: &O, failures: u64, pending: bool) -> bool {
     sink.failures() == failures && sink.pending() == pending
 }
 
-/// Whether the writes and flushes of a sink over this device have these outcomes.
-fn have_write_outcomes(
-    device: Device<'_>,
-    calls: &Cell<u32>,
-    flushes: &Cell<u32>,
-    asked: &[AskedWrite],
-) -> bool {
+/// Whether the writes and flushes of a sink over a device that fails in this way have their outcomes.
+fn have_write_outcomes(kind: ErrorKind, row: &Writes) -> bool {
+    let (calls, flushes) = (Cell::new(0), Cell::new(0));
+    let mut device = Device::new(kind, row.0, &calls, &flushes);
+    device.room = row.1;
+    device.flush_fails = row.2;
     let mut sink = ToWrite::new(device);
     let mut is_good = has_state(&sink, 0, true);
-    for (bytes, given, counts, pending) in asked {
+    for (bytes, given, counts, pending) in row.3 {
         let (failures, writes, flushed) = *counts;
         is_good = write_or_flush(&mut sink, *bytes) == *given
             && has_state(&sink, failures, *pending)
@@ -299,12 +297,8 @@ fn have_write_outcomes(
 #[test]
 fn writes_and_flushes_of_devices(rt: HostRuntime) {
     for kind in KINDS {
-        for (good, room, flush_fails, asked) in WRITES {
-            let (calls, flushes) = (Cell::new(0), Cell::new(0));
-            let mut device = Device::new(kind, good, &calls, &flushes);
-            device.room = room;
-            device.flush_fails = flush_fails;
-            holds(&rt, have_write_outcomes(device, &calls, &flushes, asked));
+        for row in &WRITES {
+            holds(&rt, have_write_outcomes(kind, row));
         }
     }
 }

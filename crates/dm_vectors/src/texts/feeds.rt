@@ -13,15 +13,10 @@ fn has_text(message: &Message, text: &[u8]) -> bool {
     message_text(message).as_slice() == text
 }
 
-/// The message has these items.
-fn has_items(message: &Message, items: &[Item]) -> bool {
-    message.items() == items
-}
-
 /// The line spells a message of these items, which has this text.
-fn spells(line: &[u8], items: &[Item], text: &[u8]) -> bool {
-    match message_from(line) {
-        Ok(message) => has_items(&message, items) && has_text(&message, text),
+fn spells(row: &(&[u8], &[Item], &[u8])) -> bool {
+    match message_from(row.0) {
+        Ok(message) => message.items() == row.1 && has_text(&message, row.2),
         Err(_) => false,
     }
 }
@@ -39,8 +34,8 @@ static MESSAGES: [(&[u8], &[Item], &[u8]); 3] = [
 
 #[test]
 fn messages_are_read_from_lines(rt: HostRuntime) {
-    for (line, items, text) in &MESSAGES {
-        holds(&rt, spells(line, items, text));
+    for row in &MESSAGES {
+        holds(&rt, spells(row));
     }
     holds(&rt, has_text(&Message::new(), b""));
 }
@@ -73,14 +68,6 @@ fn line_faults_have_their_columns(rt: HostRuntime) {
 /// What a line came to: its fault, if it has one, and how many items it has.
 type Came = (Option<LineFault>, usize);
 
-/// What the closed line came to.
-fn came(line: Result<Message, LineFault>) -> Came {
-    match line {
-        Ok(message) => (None, message.items().len()),
-        Err(fault) => (Some(fault), 0),
-    }
-}
-
 /// Feeds a piece, and adds what each line that it closes came to.
 fn feed_lines(feed: &mut LineFeed, piece: &[u8], lines: &mut ArrayVec<Came, 8>) {
     let mut rest = piece;
@@ -89,18 +76,12 @@ fn feed_lines(feed: &mut LineFeed, piece: &[u8], lines: &mut ArrayVec<Came, 8>) 
         let Some(line) = closed else {
             return;
         };
-        let _room = lines.try_push(came(line));
+        let _room = lines.try_push(match line {
+            Ok(message) => (None, message.items().len()),
+            Err(fault) => (Some(fault), 0),
+        });
         rest = rest.get(taken..).unwrap_or(b"");
     }
-}
-
-/// The end of the text closes a line of this message, and nothing more.
-fn ends_in_line(feed: &mut LineFeed, items: &[Item]) -> bool {
-    let is_good = match feed.finish() {
-        Some(Ok(message)) => has_items(&message, items),
-        _ => false,
-    };
-    is_good && feed.finish().is_none()
 }
 
 /// Whether these pieces of a text close a line with a bad escape and an empty line, and leave `A`.
@@ -109,8 +90,13 @@ fn lines_are_fed(before: &[u8], after: &[u8]) -> bool {
     let mut lines = ArrayVec::new();
     feed_lines(&mut feed, before, &mut lines);
     feed_lines(&mut feed, after, &mut lines);
+    let ends_in_line = match feed.finish() {
+        Some(Ok(message)) => message.items() == [Item::Byte(65)].as_slice(),
+        _ => false,
+    };
     lines.as_slice() == [(Some(LineFault::BadEscape(1)), 0), (None, 0)].as_slice()
-        && ends_in_line(&mut feed, &[Item::Byte(65)])
+        && ends_in_line
+        && feed.finish().is_none()
 }
 
 #[test]
@@ -141,32 +127,18 @@ fn is_symbol_of(record: Result<Grid, RecordFault>, line: &[u8]) -> bool {
     }
 }
 
-/// Feeds a piece, and says how many bytes of it were taken, and whether they closed a record: the symbol of `123456`.
-/// None where they closed another one.
-fn feed_record(feed: &mut GridFeed, piece: &[u8]) -> Option<(usize, bool)> {
+/// Feeds a whole piece, in which at most one record closes, and says how many closed: the symbol of `123456`. The
+/// largest number where anything else is found.
+fn closed_in(feed: &mut GridFeed, piece: &[u8]) -> u32 {
     let Fed { taken, closed } = feed.feed(piece);
-    match closed {
-        None => Some((taken, false)),
-        Some(record) => {
-            if is_symbol_of(record, b"123456") {
-                Some((taken, true))
-            } else {
-                None
-            }
-        }
-    }
-}
-
-/// Feeds a whole piece, in which at most one record closes, and says whether one closed: the symbol of `123456`. None
-/// where anything else is found.
-fn closes_first(feed: &mut GridFeed, piece: &[u8]) -> Option<bool> {
-    match feed_record(feed, piece)? {
-        (taken, false) if taken == piece.len() => Some(false),
-        (taken, true) => match feed_record(feed, piece.get(taken..).unwrap_or(b""))? {
-            (_, false) => Some(true),
-            _ => None,
-        },
-        _ => None,
+    let is_good = match closed {
+        None => return if taken == piece.len() { 0 } else { u32::MAX },
+        Some(record) => is_symbol_of(record, b"123456"),
+    };
+    if is_good && stays_open(feed, piece.get(taken..).unwrap_or(b"")) {
+        1
+    } else {
+        u32::MAX
     }
 }
 
@@ -183,10 +155,8 @@ fn ends_in_second(feed: &mut GridFeed) -> bool {
 fn are_fed(cut: usize) -> bool {
     let (before, after) = TWO_GRIDS.split_at(cut.min(TWO_GRIDS.len()));
     let mut feed = GridFeed::new();
-    let first = closes_first(&mut feed, before);
-    let second = closes_first(&mut feed, after);
-    (first == Some(true) && second == Some(false) || first == Some(false) && second == Some(true))
-        && ends_in_second(&mut feed)
+    let first = closed_in(&mut feed, before);
+    first.saturating_add(closed_in(&mut feed, after)) == 1 && ends_in_second(&mut feed)
 }
 
 #[test]
@@ -201,11 +171,7 @@ fn records_come_in_bytes(rt: HostRuntime) {
     let mut feed = GridFeed::new();
     let mut closed = 0u32;
     for byte in TWO_GRIDS {
-        match closes_first(&mut feed, &[*byte]) {
-            Some(true) => closed = closed.saturating_add(1),
-            Some(false) => {}
-            None => closed = u32::MAX,
-        }
+        closed = closed.saturating_add(closed_in(&mut feed, &[*byte]));
     }
     holds(&rt, closed == 1);
     holds(&rt, ends_in_second(&mut feed));
@@ -273,5 +239,5 @@ fn a_record_that_is_too_long_is_refused_and_left(rt: HostRuntime) {
         holds(&rt, stays_open(&mut feed, b"2\n"));
     }
     holds(&rt, closes(&mut feed, b"\n", 1, RecordFault::Character));
-    holds(&rt, closes_first(&mut feed, TWO_GRIDS) == Some(true));
+    holds(&rt, closed_in(&mut feed, TWO_GRIDS) == 1);
 }

@@ -28,11 +28,12 @@ pub(super) struct TextSource<'a> {
     /// The same for each read after it.
     later: usize,
     good_reads: usize,
-    reads: usize,
+    /// How many reads there were, failed ones too.
+    pub(super) reads: usize,
     /// How many bytes it has given.
     given: usize,
-    /// The last place up to which it was asked for bytes.
-    reach: usize,
+    /// The last place up to which it was asked for bytes, the first byte's being 1.
+    pub(super) reach: usize,
     failures: u64,
 }
 
@@ -55,16 +56,6 @@ impl<'a> TextSource<'a> {
             reach: 0,
             failures: 0,
         }
-    }
-
-    /// How many reads there were, failed ones too.
-    pub(super) fn reads(&self) -> usize {
-        self.reads
-    }
-
-    /// The last place up to which it was asked for bytes, the first byte's being 1.
-    pub(super) fn reach(&self) -> usize {
-        self.reach
     }
 }
 

@@ -43,11 +43,6 @@ pub(super) fn ran<I: Source, O: Sink>(
     run(task, source, sink, u64::from(most))
 }
 
-/// Whether the sink has taken just this, and was flushed once, when it had taken all of it.
-fn has_taken(sink: &MemorySink, written: &[u8]) -> bool {
-    sink.taken() == written && sink.flushes() == [written.len()].as_slice()
-}
-
 /// A task, its text, what it writes, and how many records or lines it answers and refuses.
 pub(super) type Run<'a> = (Task, &'a [u8], &'a [u8], u64, u64);
 
@@ -57,7 +52,9 @@ pub(super) fn writes(run: Run<'_>) -> bool {
     let (task, text, written, answered, refused) = run;
     let mut sink = MemorySink::new();
     let outcome = ran(task, &mut TextSource::new(text), &mut sink, MOST);
-    outcome == Ok(Tally { answered, refused }) && has_taken(&sink, written)
+    outcome == Ok(Tally { answered, refused })
+        && sink.taken() == written
+        && sink.flushes() == [written.len()].as_slice()
 }
 
 /// Whether the task writes just this for a text of one record or line, and counts it as refused where this is a

@@ -4,7 +4,8 @@ use super::*;
 use dm_layout::Size;
 
 /// Whether the ASCII codewords of these items, with pads up to the size of this side, are these.
-fn writes(items: &[Item], side: u16, expected: &[u8]) -> bool {
+fn writes(row: &(&[Item], u16, &[u8])) -> bool {
+    let (items, side, expected) = *row;
     let (Ok(words), Some(size)) = (ascii_words(&of_items(items)), Size::of_side(side)) else {
         return false;
     };
@@ -42,8 +43,8 @@ static WRITTEN: [(&[Item], u16, &[u8]); 9] = [
 
 #[test]
 fn messages_are_written_in_ascii(rt: HostRuntime) {
-    for (items, side, words) in &WRITTEN {
-        holds(&rt, writes(items, *side, words));
+    for row in &WRITTEN {
+        holds(&rt, writes(row));
     }
 }
 

@@ -11,11 +11,6 @@ type Row = (
     &'static [(u16, u32)],
 );
 
-/// What the codewords say, and the fault of no codeword where there are too many of them.
-pub(super) fn content(words: &[u8]) -> Result<Content, ContentFault> {
-    content_in(Extent::Wide, words)
-}
-
 /// Whether the items are these bytes, of which 232 stands for FNC1.
 fn are_said(items: &[Item], bytes: &[u8]) -> bool {
     if items.len() != bytes.len() {
@@ -48,22 +43,21 @@ fn are_marks(marks: &[Mark], rows: &[(u16, u32)]) -> bool {
     true
 }
 
-/// Whether the content has this head, these items and these marks.
-fn is_content(content: &Content, row: &Row) -> bool {
-    let (_, head, items, marks) = row;
-    content.head() == *head && are_said(content.items(), items) && are_marks(content.marks(), marks)
+/// Whether the codewords say their content.
+fn is_read(row: &Row) -> bool {
+    match content_in(Extent::Wide, row.0) {
+        Ok(content) => content.head() == row.1
+            && are_said(content.items(), row.2)
+            && are_marks(content.marks(), row.3),
+        Err(_) => false,
+    }
 }
 
 /// Whether the codewords of each row say its content.
 fn are_read(rows: &[Row]) -> bool {
     for row in rows {
-        match content(row.0) {
-            Ok(content) => {
-                if !is_content(&content, row) {
-                    return false;
-                }
-            }
-            Err(_) => return false,
+        if !is_read(row) {
+            return false;
         }
     }
     true
@@ -72,13 +66,8 @@ fn are_read(rows: &[Row]) -> bool {
 /// Whether the codewords of each row are refused with its fault.
 fn are_refused(rows: &[(&[u8], ContentFault)]) -> bool {
     for (words, fault) in rows {
-        match content(words) {
-            Ok(_) => return false,
-            Err(found) => {
-                if found != *fault {
-                    return false;
-                }
-            }
+        if content_in(Extent::Wide, words).err() != Some(*fault) {
+            return false;
         }
     }
     true

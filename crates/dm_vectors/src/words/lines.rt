@@ -1,6 +1,6 @@
 //! Tables of codewords, written as text: a line for each row.
 
-use super::wide::spells_widely;
+use super::wide::content_in;
 use super::*;
 
 /// A row as far as its line was looked at: codewords, each with a blank behind it, then `=` and the bytes that they
@@ -23,10 +23,14 @@ fn no_row() -> Row {
     }
 }
 
-/// Takes a digit, or the blank behind a codeword.
-fn take_digit(row: &mut Row, character: u8) {
-    if character == b' ' {
-        add_word(&mut row.words, row.number);
+/// Takes the next character of the line.
+fn take(row: &mut Row, character: u8) {
+    if row.has_bytes {
+        let _room = row.bytes.try_push(character);
+    } else if character == b'=' {
+        row.has_bytes = true;
+    } else if character == b' ' {
+        let _room = row.words.try_push(row.number);
         row.number = 0;
     } else {
         row.number = row
@@ -36,23 +40,18 @@ fn take_digit(row: &mut Row, character: u8) {
     }
 }
 
-/// Takes the next character of the line.
-fn take(row: &mut Row, character: u8) {
-    if row.has_bytes {
-        let _room = row.bytes.try_push(character);
-    } else if character == b'=' {
-        row.has_bytes = true;
-    } else {
-        take_digit(row, character);
-    }
-}
-
 /// Whether the row is whole, and its codewords spell its bytes in the extent.
 fn is_spelled(row: &Row, extent: Extent) -> bool {
     row.has_bytes
         && match extent {
-            Extent::Usual => spells_bytes(&row.words, &row.bytes),
-            Extent::Wide => spells_widely(&row.words, &row.bytes),
+            Extent::Usual => match message(&row.words) {
+                Ok(message) => are_bytes(message.items(), &row.bytes),
+                Err(_) => false,
+            },
+            Extent::Wide => match content_in(Extent::Wide, &row.words) {
+                Ok(content) => are_bytes(content.items(), &row.bytes),
+                Err(_) => false,
+            },
         }
 }
 

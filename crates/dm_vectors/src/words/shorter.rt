@@ -3,9 +3,9 @@
 use super::*;
 
 /// Whether the codewords of so many times one byte in the shorter form are these.
-fn is_shorter(byte: u8, count: usize, expected: &[u8]) -> bool {
-    match shorter_words(&of_many(byte, count)) {
-        Ok(words) => words.as_slice() == expected,
+fn is_shorter(row: &(u8, usize, &[u8])) -> bool {
+    match shorter_words(&of_many(row.0, row.1)) {
+        Ok(words) => words.as_slice() == row.2,
         Err(_) => false,
     }
 }
@@ -20,8 +20,8 @@ static SHORTER: [(u8, usize, &[u8]); 4] = [
 
 #[test]
 fn the_shorter_of_two_forms_is_written(rt: HostRuntime) {
-    for (byte, count, words) in &SHORTER {
-        holds(&rt, is_shorter(*byte, *count, words));
+    for row in &SHORTER {
+        holds(&rt, is_shorter(row));
     }
 }
 

@@ -15,26 +15,10 @@ pub(super) fn content_in(extent: Extent, words: &[u8]) -> Result<Content, Conten
     }
 }
 
-/// Whether the codewords spell these bytes in the wide extent.
-pub(super) fn spells_widely(words: &[u8], bytes: &[u8]) -> bool {
-    match content_in(Extent::Wide, words) {
-        Ok(content) => are_bytes(content.items(), bytes),
-        Err(_) => false,
-    }
-}
-
-/// Whether the codewords are refused with this fault in an extent.
-pub(super) fn is_refused_in(extent: Extent, words: &[u8], fault: WordFault) -> bool {
-    match content_in(extent, words) {
-        Ok(_) => false,
-        Err(found) => found == ContentFault::Word(fault),
-    }
-}
-
 /// Whether the codewords of each row are refused with its fault in an extent.
 pub(super) fn are_refused(extent: Extent, rows: &[(&[u8], WordFault)]) -> bool {
     for (words, fault) in rows {
-        if !is_refused_in(extent, words, *fault) {
+        if content_in(extent, words).err() != Some(ContentFault::Word(*fault)) {
             return false;
         }
     }

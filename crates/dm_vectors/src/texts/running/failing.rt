@@ -75,29 +75,19 @@ fn failed(fault: RunFault, reads: usize, written: &[u8]) -> End<'_> {
     }
 }
 
-impl<'a> End<'a> {
-    /// The source is so after the run. It wasn't asked for more than one byte past the limit, and not called again
-    /// after it failed.
-    fn leaves_source(&self, source: &TextSource<'_>, most: u32) -> bool {
-        source.reads() == self.reads
-            && source.reach() as u64 <= u64::from(most).saturating_add(1)
-            && source.failures() == u64::from(matches!(self.outcome, Err(RunFault::Read)))
-    }
-
-    /// The sink is so after the run. It wasn't called again after it failed.
-    fn leaves_sink(&self, sink: &MemorySink) -> bool {
-        sink.taken() == self.written
-            && sink.flushes() == self.flushes
-            && sink.failures() == u64::from(matches!(self.outcome, Err(RunFault::Write)))
-    }
-}
-
-/// Whether the run of the task over this text, of which at most so many bytes may come, ends so.
+/// Whether the run of the task over this text, of which at most so many bytes may come, ends so. The source wasn't
+/// asked for more than one byte past the limit, and neither device was called again after it failed.
 fn run_ends(task: Task, text: &[u8], devices: &Devices, most: u32, end: &End<'_>) -> bool {
     let mut source = TextSource::failing(text, devices.first, devices.later, devices.good_reads);
     let mut sink = MemorySink::failing(devices.most, devices.room, devices.flush_fails);
     let outcome = ran(task, &mut source, &mut sink, most);
-    outcome == end.outcome && end.leaves_source(&source, most) && end.leaves_sink(&sink)
+    outcome == end.outcome
+        && source.reads == end.reads
+        && source.reach as u64 <= u64::from(most).saturating_add(1)
+        && source.failures() == u64::from(matches!(outcome, Err(RunFault::Read)))
+        && sink.taken() == end.written
+        && sink.flushes() == end.flushes
+        && sink.failures() == u64::from(matches!(outcome, Err(RunFault::Write)))
 }
 
 /// Whether a run that reads the two grids ends so.
@@ -111,11 +101,8 @@ fn lines_end(devices: &Devices, most: u32, end: &End<'_>) -> bool {
 }
 
 /// Whether a run that writes the table ends so. Its source fails at the first read.
-fn table_ends(devices: Devices, end: &End<'_>) -> bool {
-    let devices = Devices {
-        good_reads: 0,
-        ..devices
-    };
+fn table_ends(mut devices: Devices, end: &End<'_>) -> bool {
+    devices.good_reads = 0;
     run_ends(Task::Table, TWO_GRIDS, &devices, 0, end)
 }
 
@@ -128,10 +115,8 @@ fn a_read_fails(rt: HostRuntime) {
             } else {
                 b"123456\n"
             };
-            let devices = Devices {
-                good_reads: good,
-                ..moving(piece)
-            };
+            let mut devices = moving(piece);
+            devices.good_reads = good;
             let end = failed(RunFault::Read, good.saturating_add(1), written);
             holds(&rt, grids_end(&devices, &end));
         }
@@ -156,10 +141,8 @@ fn a_write_fails(rt: HostRuntime) {
             } else {
                 reads_of(TWO_GRIDS, piece, usize::MAX)
             };
-            let devices = Devices {
-                room,
-                ..moving(piece)
-            };
+            let mut devices = moving(piece);
+            devices.room = room;
             let end = failed(RunFault::Write, reads, &OUT[..room]);
             holds(&rt, grids_end(&devices, &end));
         }
@@ -169,14 +152,10 @@ fn a_write_fails(rt: HostRuntime) {
 #[test]
 fn the_flush_fails(rt: HostRuntime) {
     for piece in PIECES {
-        let devices = Devices {
-            flush_fails: true,
-            ..moving(piece)
-        };
-        let end = End {
-            flushes: &[9],
-            ..failed(RunFault::Write, reads_of(TWO_GRIDS, piece, usize::MAX), OUT)
-        };
+        let mut devices = moving(piece);
+        devices.flush_fails = true;
+        let mut end = failed(RunFault::Write, reads_of(TWO_GRIDS, piece, usize::MAX), OUT);
+        end.flushes = &[9];
         holds(&rt, grids_end(&devices, &end));
     }
 }
@@ -208,18 +187,12 @@ static GRID_LIMITS: [(u32, Option<u64>, &[u8]); 6] = [
 /// Whether a run that reads grids from this text in such pieces, of which so many bytes may come, ends so.
 fn is_limited(text: &[u8], piece: usize, most: u32, answered: Option<u64>, written: &[u8]) -> bool {
     let flushes = [written.len()];
-    let end = match answered {
+    let mut end = match answered {
         Some(answered) => all_answered(answered, written, &flushes),
         None => failed(RunFault::TooMuchInput, 0, written),
     };
-    let reads = reads_of(text, piece, most as usize);
-    run_ends(
-        Task::Read(None),
-        text,
-        &moving(piece),
-        most,
-        &End { reads, ..end },
-    )
+    end.reads = reads_of(text, piece, most as usize);
+    run_ends(Task::Read(None), text, &moving(piece), most, &end)
 }
 
 #[test]
@@ -241,8 +214,10 @@ fn pieces_change_nothing(rt: HostRuntime) {
     end.reads = 2;
     holds(&rt, grids_end(&GOOD, &end));
     end.reads = 3;
+    let mut devices = GOOD;
     for first in 1..TWO_GRIDS.len() {
-        holds(&rt, grids_end(&Devices { first, ..GOOD }, &end));
+        devices.first = first;
+        holds(&rt, grids_end(&devices, &end));
     }
 }
 
@@ -250,12 +225,10 @@ fn pieces_change_nothing(rt: HostRuntime) {
 fn a_read_fails_between_lines(rt: HostRuntime) {
     for good in 0..=TWO_LINES.len() {
         let written = if good < 2 { b"".as_slice() } else { LETTER };
-        let devices = Devices {
-            first: 1,
-            later: 1,
-            good_reads: good,
-            ..GOOD
-        };
+        let mut devices = GOOD;
+        devices.first = 1;
+        devices.later = 1;
+        devices.good_reads = good;
         let end = failed(RunFault::Read, good.saturating_add(1), written);
         holds(&rt, lines_end(&devices, 1000, &end));
     }
@@ -267,11 +240,9 @@ fn a_write_fails_within_a_grid(rt: HostRuntime) {
     for room in 0..written.len() {
         let reads = if room < 111 { 1 } else { 2 };
         let end = failed(RunFault::Write, reads, &written.as_slice()[..room]);
-        let devices = Devices {
-            most: 7,
-            room,
-            ..GOOD
-        };
+        let mut devices = GOOD;
+        devices.most = 7;
+        devices.room = room;
         holds(&rt, lines_end(&devices, 1000, &end));
     }
 }
@@ -298,11 +269,9 @@ fn the_table_needs_no_source(rt: HostRuntime) {
 fn a_write_of_the_table_fails(rt: HostRuntime) {
     for room in 0..SIZES.len() {
         let end = failed(RunFault::Write, 0, &SIZES[..room]);
-        let devices = Devices {
-            most: 7,
-            room,
-            ..GOOD
-        };
+        let mut devices = GOOD;
+        devices.most = 7;
+        devices.room = room;
         holds(&rt, table_ends(devices, &end));
     }
 }
@@ -310,15 +279,11 @@ fn a_write_of_the_table_fails(rt: HostRuntime) {
 #[test]
 fn the_flush_of_the_table_fails(rt: HostRuntime) {
     let flushes = [SIZES.len()];
-    let devices = Devices {
-        most: 7,
-        flush_fails: true,
-        ..GOOD
-    };
-    let end = End {
-        flushes: &flushes,
-        ..failed(RunFault::Write, 0, SIZES)
-    };
+    let mut devices = GOOD;
+    devices.most = 7;
+    devices.flush_fails = true;
+    let mut end = failed(RunFault::Write, 0, SIZES);
+    end.flushes = &flushes;
     holds(&rt, table_ends(devices, &end));
 }
 

@@ -122,22 +122,16 @@ fn grids_are_read_and_checked(rt: HostRuntime) {
     }
 }
 
-/// Appends the record of a worked grid with an empty line after it, and what is written where it is read and where it
-/// is checked.
-fn push_worked(worked: &Worked, text: &mut Taken, read: &mut Taken, checked: &mut Taken) {
-    push_record(text, worked.0);
-    push(text, b"\n");
-    push(read, worked.1);
-    push(checked, worked.2);
-}
-
 /// Whether all grids, one after another, are read and checked as their rows say.
 fn are_read_and_checked_in_order() -> bool {
     let mut text = Taken::new();
     let mut read = Taken::new();
     let mut checked = Taken::new();
     for worked in grids() {
-        push_worked(worked, &mut text, &mut read, &mut checked);
+        push_record(&mut text, worked.0);
+        push(&mut text, b"\n");
+        push(&mut read, worked.1);
+        push(&mut checked, worked.2);
     }
     writes((Task::Read(None), &text, &read, 5, 12))
         && writes((Task::Check(None), &text, &checked, 5, 12))

@@ -25,14 +25,15 @@ fn is_form(grid: &[u8], line: &[u8], shorter: &[u8], ascii: &[u8]) -> bool {
         && answers(Task::Normal(None, Profile::Ascii), grid, ascii)
 }
 
-/// Whether the line is written as grids of these sides under the shorter profile and under ASCII. Each is read as the
-/// line, and is normal under its own profile; normalising under the other gives the other.
-fn has_sides(line: &[u8], side: usize, ascii_side: usize) -> bool {
-    let shorter = written_for(Task::Write(Profile::Shorter), line);
-    let ascii = written_for(Task::Write(Profile::Ascii), line);
-    let read = ended(line);
-    has_side(&shorter, side)
-        && has_side(&ascii, ascii_side)
+/// Whether a line of so many items is written as grids of these sides under the shorter profile and under ASCII. Each
+/// is read as the line, and is normal under its own profile; normalising under the other gives the other.
+fn has_sides(row: &(&[u8], usize, usize, usize)) -> bool {
+    let line = line_of(row.0, row.1);
+    let shorter = written_for(Task::Write(Profile::Shorter), &line);
+    let ascii = written_for(Task::Write(Profile::Ascii), &line);
+    let read = ended(&line);
+    has_side(&shorter, row.2)
+        && has_side(&ascii, row.3)
         && is_form(&shorter, &read, &shorter, &ascii)
         && is_form(&ascii, &read, &shorter, &ascii)
 }
@@ -48,8 +49,8 @@ static SIDES: [(&[u8], usize, usize, usize); 5] = [
 
 #[test]
 fn the_shorter_form_has_its_side(rt: HostRuntime) {
-    for (item, count, side, ascii_side) in &SIDES {
-        holds(&rt, has_sides(&line_of(item, *count), *side, *ascii_side));
+    for row in &SIDES {
+        holds(&rt, has_sides(row));
     }
 }
 
