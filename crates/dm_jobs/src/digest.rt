@@ -3,13 +3,15 @@
 use crate::cells::{bytes_of, sixteen};
 use dm_layout::symbols::Symbol;
 
-/// A number that depends on all that was added, and on its order; and how many results were told to be answers, and how
-/// many refusals.
+/// A digest.
 #[derive(Clone, Copy)]
 pub(crate) struct Digest {
-    state: u64,
-    answered: u64,
-    refused: u64,
+    /// A number that depends on all that was added, and on its order.
+    pub(crate) state: u64,
+    /// How many results were told to be answers.
+    pub(crate) answered: u64,
+    /// How many were told to be refusals.
+    pub(crate) refused: u64,
 }
 
 impl Digest {
@@ -20,21 +22,6 @@ impl Digest {
             answered: 0,
             refused: 0,
         }
-    }
-
-    /// Gives the number.
-    pub(crate) fn value(&self) -> u64 {
-        self.state
-    }
-
-    /// Gives how many results were answers.
-    pub(crate) fn answered(&self) -> u64 {
-        self.answered
-    }
-
-    /// Gives how many results were refusals.
-    pub(crate) fn refused(&self) -> u64 {
-        self.refused
     }
 
     /// Tells of so many answers and refusals.

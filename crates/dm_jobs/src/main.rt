@@ -38,7 +38,7 @@ enum Job {
 }
 
 /// All jobs.
-const EACH: [Job; 6] = [
+static EACH: [Job; 6] = [
     Job::Scans,
     Job::Stores,
     Job::Labels,
@@ -47,18 +47,25 @@ const EACH: [Job; 6] = [
     Job::Stray,
 ];
 
+/// Words, and the places of the jobs that they name.
+static WORDS: [(&str, usize, usize); 7] = [
+    ("scans", 0, 1),
+    ("stores", 1, 2),
+    ("labels", 2, 3),
+    ("camera", 3, 4),
+    ("torn", 4, 5),
+    ("stray", 5, 6),
+    ("each", 0, 6),
+];
+
 /// Gives the jobs that a word names.
 fn jobs_of(word: &str) -> Option<&'static [Job]> {
-    match word {
-        "scans" => Some(&EACH[..1]),
-        "stores" => Some(&EACH[1..2]),
-        "labels" => Some(&EACH[2..3]),
-        "camera" => Some(&EACH[3..4]),
-        "torn" => Some(&EACH[4..5]),
-        "stray" => Some(&EACH[5..]),
-        "each" => Some(&EACH),
-        _ => None,
+    for (name, first, end) in &WORDS {
+        if word == *name {
+            return EACH.get(*first..*end);
+        }
     }
+    None
 }
 
 /// Does so many rounds of a job, and gives the digest of its results.
@@ -106,9 +113,12 @@ fn main(rt: HostRuntime) -> io::Result<ExitCode> {
     let words: Vec<String> = env::args(&rt)?.collect(rt.alloc())?;
     match do_words(&rt, words.as_slice()) {
         Ok(digest) => {
-            let (answered, refused) = (digest.answered(), digest.refused());
-            let value = digest.value();
-            println!(rt; "{value:016x}, {answered} answered, {refused} refused")?;
+            let Digest {
+                state,
+                answered,
+                refused,
+            } = digest;
+            println!(rt; "{state:016x}, {answered} answered, {refused} refused")?;
             Ok(ExitCode::SUCCESS)
         }
         Err(failure) => {

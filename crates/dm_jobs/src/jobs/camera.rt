@@ -4,6 +4,7 @@ use crate::chance::Chance;
 use crate::digest::Digest;
 use crate::library::{Caller, SQUARE, exact};
 use crate::texts::{Text, digits, scanned, serial};
+use ecc200_calls::How;
 
 /// How many squares a round has.
 const SQUARES: usize = 10;
@@ -26,8 +27,7 @@ pub(crate) fn round(caller: &mut Caller, chance: &mut Chance, digest: &mut Diges
     let mut text = Text::new();
     for _ in 0..SQUARES {
         scanned(&mut text, chance);
-        caller.write(text.as_slice(), SQUARE, digest);
-        scan(caller, chance, digest);
+        scan(caller, &text, SQUARE, chance, digest);
     }
     for (rows, columns, count) in RECTANGLES {
         if rows == 8 {
@@ -35,19 +35,18 @@ pub(crate) fn round(caller: &mut Caller, chance: &mut Chance, digest: &mut Diges
         } else {
             serial(&mut text, count, chance);
         }
-        caller.write(text.as_slice(), exact(rows, columns), digest);
-        scan(caller, chance, digest);
+        scan(caller, &text, exact(rows, columns), chance, digest);
     }
     let (rows, columns, count) = LARGEST[chance.below(3) as usize];
     if chance.happens(20) {
         serial(&mut text, count, chance);
-        caller.write(text.as_slice(), exact(rows, columns), digest);
-        scan(caller, chance, digest);
+        scan(caller, &text, exact(rows, columns), chance, digest);
     }
 }
 
-/// Reads the symbol that was written, clean and with one to three modules wrong, and normalises it with others wrong.
-fn scan(caller: &mut Caller, chance: &mut Chance, digest: &mut Digest) {
+/// Writes a symbol, reads it clean and with one to three modules wrong, and normalises it with others wrong.
+fn scan(caller: &mut Caller, text: &Text, how: How, chance: &mut Chance, digest: &mut Digest) {
+    caller.write(text.as_slice(), how, digest);
     caller.read(digest);
     let count = 1 + chance.place(3);
     caller.turn_some(count, chance);

@@ -43,7 +43,9 @@ pub(crate) fn round(
     caller.read_doubtful(digest);
     serial(&mut text, 180, chance);
     caller.write(text.as_slice(), exact(52, 52), digest);
-    spoil_last_block(caller, middle, chance);
+    // Of the second of the two blocks, one codeword more than can be corrected.
+    let from = chance.below(120) as u16;
+    spoil_second_codewords(caller, middle, from, from + 44);
     caller.read(digest);
     read_records(alloc, chance, digest)
 }
@@ -76,12 +78,6 @@ fn make_noise(caller: &mut Caller, chance: &mut Chance) {
 /// Whether a row or column isn't the first or last of a region with so many.
 fn is_inner(line: u16, region: u16) -> bool {
     region > 0 && line % region != 0 && line % region != region - 1
-}
-
-/// Spoils, of the second of the two blocks of a symbol of side 52, one codeword more than can be corrected.
-fn spoil_last_block(caller: &mut Caller, middle: &Places, chance: &mut Chance) {
-    let from = chance.below(120) as u16;
-    spoil_second_codewords(caller, middle, from, from + 44);
 }
 
 /// Reads records that are none, or cut off, or have other characters in them.
