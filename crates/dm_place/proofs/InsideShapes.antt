@@ -1,9 +1,6 @@
 -- The cells of all shapes of a mapping matrix lie in it.
-use Rattle.std.proofs.Common.{arith}
+use Rattle.std.proofs.Common.{arith, ◌≡◌, ℕ, true, ◌&&◌, nat_lt, nat_le, List, [], ◌∷◌, length, Some}
 use Rattle.std.proofs.lemmas.Bool.Decides.{nat_tests}
-use Rattle.std.proofs.Common.{◌≡◌, ℕ, true, ◌&&◌, nat_lt}
-use Rattle.std.proofs.Common.{nat_le, List, [], ◌∷◌, length}
-use Rattle.std.specs.Prelude.{Some}
 use Rattle.std.specs.List.{list_all}
 use Rattle.std.proofs.lemmas.Bool.{and_parts, ltb-true, leb-true}
 use Rattle.dm_place.specs.declared.shape.Cell.{Cell}

@@ -1,7 +1,7 @@
 -- The list of all places, by codeword and then by bit.
 use Rattle.std.proofs.lemmas.Bool.Decides.{nat_tests}
 use Rattle.std.proofs.Common.{◌≡◌, ℕ, zero, suc, ◌+◌, ◌-◌, ◌*◌, ◌/◌, ◌%◌, ◌<◌, ◌≤◌, List, [], ◌∷◌, ◌++◌, length, get_or}
-use Rattle.std.proofs.Common.{refl, sym, ◌∙◌, ap, arith, length-append, add-zero, Bool, true, false}
+use Rattle.std.proofs.Common.{refl, sym, ◌∙◌, ap, arith, length-append, add-zero, Bool, true, false, Some}
 use Rattle.std.proofs.lemmas.List.{get_or-append-add, get_or_append_left}
 use Rattle.dm_place.specs.declared.shape.Cell.{Cell}
 use Rattle.dm_place.specs.declared.cells.Place.{Place}
@@ -10,7 +10,6 @@ use Rattle.dm_place.specs.declared.shape.Shape.TheVariants.{Corner1}
 use Rattle.dm_place.specs.Placement.{At, cells_of, bits_from, places_from, shapes, place, places_in_order, IsPlace}
 use Rattle.dm_place.specs.Placement.{NoPlace, OnePlace, EachCellOnce, IsPlaceList}
 use Rattle.dm_place.specs.Border.{is_fixed}
-use Rattle.std.specs.Prelude.{Some}
 use Rattle.std.proofs.lemmas.Option.{slice_get-get_or}
 use Rattle.std.specs.Bool.{MatchBool}
 use Rattle.std.proofs.lemmas.Bool.{MatchBool-at_true, MatchBool-at_false}

@@ -1,9 +1,7 @@
 -- What the computed test of the sweep says of each size of the table.
 use Rattle.std.proofs.lemmas.Bool.Decides.{nat_tests}
-use Rattle.std.proofs.Common.{arith}
-use Rattle.std.proofs.Common.{◌≡◌, ℕ, ◌*◌, ◌&&◌, true, nat_eq, List, length, subst, sym, ap, ◌∙◌}
+use Rattle.std.proofs.Common.{arith, ◌≡◌, ℕ, ◌*◌, ◌&&◌, true, nat_eq, List, length, subst, sym, ap, ◌∙◌, cond}
 use Rattle.std.specs.Prelude.{pos, find, Option, Some, Bool, [], ◌∷◌}
-use Rattle.std.proofs.Common.{cond}
 use Rattle.std.specs.List.{All, list_all, AllByRecursion}
 use Rattle.std.proofs.lemmas.Bool.{and_parts, eqb-true}
 use Rattle.std.proofs.lemmas.List.Elements.{All-weaker, recursion_from_All}

@@ -1,7 +1,6 @@
 -- The test of the sweep, computed for the mapping matrix of each size.
 use Rattle.std.proofs.Common.{zero, suc, [], ◌∷◌, ◌∙◌, ap, ◌≡◌, ℕ, ◌*◌, Bool, true, ◌&&◌, nat_eq, nat_lt, nat_le, List}
-use Rattle.std.proofs.Common.{take, drop, length, refl}
-use Rattle.std.specs.Prelude.{pos}
+use Rattle.std.proofs.Common.{take, drop, length, refl, pos}
 use Rattle.std.specs.List.{list_all}
 use Rattle.std.proofs.lemmas.Bool.{and_parts}
 use Rattle.dm_place.specs.declared.shape.Shape.{Shape}

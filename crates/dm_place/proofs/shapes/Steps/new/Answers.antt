@@ -1,7 +1,6 @@
 use Rattle.std.proofs.Common.{◌≡◌, ◌+◌, ◌-◌, ℕ, ap, arith, flat_map}
 use Rattle.std.specs.List.{range_with_len}
-use Rattle.dm_place.specs.Placement.{shapes}
-use Rattle.dm_place.specs.Placement.{shapes_of_sum}
+use Rattle.dm_place.specs.Placement.{shapes, shapes_of_sum}
 use Rattle.dm_place.proofs.shapes.Steps.new.Goals as goal
 
 pub returns-clause-left : goal.returns-clause-left
