@@ -18,7 +18,8 @@ pub use Rattle.dm_layout.specs.symbols.Equality.{equal_modules, equal_sizes}
 pub use Rattle.dm_layout.specs.symbols.Sizes.{IsSize, SizeEntry, area, block_check, block_data, codeword_count}
 pub use Rattle.dm_layout.specs.symbols.Sizes.{count_in_block, entry_for, entry_with, mapping_columns, mapping_rows}
 pub use Rattle.dm_layout.specs.symbols.Sizes.{most_block_check, most_blocks, most_cells, most_codewords, most_columns}
-pub use Rattle.dm_layout.specs.symbols.Sizes.{most_data, most_modules, most_rows, size_table, takes}
+pub use Rattle.dm_layout.specs.symbols.Sizes.{most_data, most_modules, most_rows, takes}
+unfoldable pub use Rattle.dm_layout.specs.symbols.Sizes.{size_table}
 pub use Rattle.dm_layout.specs.symbols.Symbols.{IsSymbol, SymbolView, is_dark_bit, module_at, rows_by}
 pub use Rattle.dm_layout.specs.symbols.Words.{AreOfSize, IsWords, WordsView, first_words, words_with}
 pub use Rattle.dm_layout.specs.symbols.inner.BorderMasks.{AreBorders, AreRuled, sure_faults_in}
@@ -31,8 +32,9 @@ pub use Rattle.dm_layout.specs.symbols.inner.Pairs.{number_of, numbers_of, pair}
 pub use Rattle.dm_layout.specs.symbols.inner.Reading.{look_in, marks_in, whole_row}
 pub use Rattle.dm_layout.specs.symbols.inner.RowDrawing.{IsDrawn}
 pub use Rattle.dm_layout.specs.symbols.inner.Slots.{HasSlot, HasSlots, IsJoined, bits_in, bytes_of, first_column}
-pub use Rattle.dm_layout.specs.symbols.inner.Slots.{in_bytes, less_of, most_of, order_of, rest_order_of, reversed_bits}
+pub use Rattle.dm_layout.specs.symbols.inner.Slots.{less_of, most_of, order_of, rest_order_of, reversed_bits}
 pub use Rattle.dm_layout.specs.symbols.inner.Slots.{slot_byte, slot_numbers, slot_of, slot_rows}
+unfoldable pub use Rattle.dm_layout.specs.symbols.inner.Slots.{in_bytes}
 pub use Rattle.dm_layout.specs.symbols.inner.Widened.{IsMoved, IsWidened, round, source}
 pub use Rattle.dm_layout.specs.symbols.inner.Widths.{most_wide, wide_matrix}
 pub use Rattle.dm_place.proofs.Exported.{all_below, at_found, cells_inside, count_at_sides, digit-has, few_shapes}
@@ -61,7 +63,7 @@ pub use Rattle.std.proofs.Math.Seq.{drop-append_seam, take-append_seam, take-set
 pub use Rattle.std.proofs.lemmas.Bool.{and_parts, cases_eq, cases_lt, eqb-false, eqb-true, le-leb, le-ltb, leb-false}
 pub use Rattle.std.proofs.lemmas.Bool.{leb-true, lt-leb, lt-ltb, ltb-false, ltb-true, ne_eqb, true≢false}
 pub use Rattle.std.proofs.lemmas.Bool.Decides.{Decides-and, Decides-like, Decides-or, nat_tests, same_from_decides}
-pub use Rattle.std.proofs.lemmas.Grind.{same_number_lists}
+pub use Rattle.std.proofs.lemmas.Grind.{common_steps, same_number_lists}
 pub use Rattle.std.proofs.lemmas.List.{get_or-drop, get_or-map, get_or-take, get_or_append_left, length-append}
 pub use Rattle.std.proofs.lemmas.List.{length-drop, length-map, length-replicate, length-set, length-take-le, map-set}
 pub use Rattle.std.proofs.lemmas.List.{same_lists, take-replicate, take_all}

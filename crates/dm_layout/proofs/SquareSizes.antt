@@ -8,12 +8,11 @@ use Rattle.dm_layout.proofs.Names.{row_for_words, row_of_entry, symbol_size, lar
 use Rattle.std.proofs.Math.Nat.{mul-lt-mul_of_pos_right}
 use Rattle.dm_layout.specs.symbols.Sizes as sizes
 use Rattle.dm_layout.specs.symbols.Sizes.{is_square}
-use Rattle.dm_layout.proofs.symbols.Exported.{at_found, found_passes}
+use Rattle.dm_layout.proofs.symbols.Exported.{at_found, found_passes, found_none, same_in_each}
 use Rattle.dm_layout.specs.Sizes.{size_table, row_of_symbol}
 use Rattle.dm_layout.specs.declared.grids.size.TheConstants.{PLACES}
 use Rattle.dm_layout.proofs.TableRows.{enough_for_words, found_row, row_for_words_row, row_facts}
 use Rattle.dm_layout.proofs.TableRows.{rows_found, smallest_for_words}
-use Rattle.dm_layout.proofs.symbols.Exported.{found_none, same_in_each}
 use Rattle.dm_layout.proofs.Squares.{is_size, same_row}
 
 -- ---- sizes of symbols that are kept for squares

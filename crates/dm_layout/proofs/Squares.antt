@@ -8,8 +8,7 @@ use Rattle.dm_layout.specs.symbols.Sizes as sizes
 use Rattle.dm_layout.specs.symbols.Words as codewords
 use Rattle.dm_layout.specs.symbols.Holding as holding
 use Rattle.dm_layout.proofs.symbols.Exported.{at_found, one_held, one_laid as one_laid_of, some_held, some_laid}
-use Rattle.dm_layout.specs.Sizes.{size_table, block_data}
-use Rattle.dm_layout.specs.Sizes.{TableIsOfSquares}
+use Rattle.dm_layout.specs.Sizes.{size_table, block_data, TableIsOfSquares}
 use Rattle.dm_layout.specs.Words.{WordsView, IsWords}
 use Rattle.dm_layout.specs.Border.{mapped_cell}
 use Rattle.dm_layout.specs.Squares.{IsSquare, GridsAreModules, WordsAreCodewords, HeldAlike, LaidAlike}

@@ -6,12 +6,9 @@ use Rattle.dm_layout.proofs.Names.{All-from_recursion, AllPass-from_list_all, Si
 use Rattle.dm_layout.proofs.Names.{row_for_words, regions_across, block_length, largest_side, largest_mapping}
 use Rattle.dm_layout.proofs.Names.{most_across, most_grid_codewords, most_grid_data, most_grid_blocks, longest_block}
 use Rattle.dm_layout.proofs.Names.{IsGreatest}
-use Rattle.dm_layout.proofs.symbols.Exported.{at_found, found_passes, greatest_of}
-use Rattle.dm_layout.proofs.symbols.Exported.{Rises, found_first, rises_test, weaker_all}
-use Rattle.dm_layout.proofs.symbols.Exported.{found_none, same_in_each}
-use Rattle.dm_layout.specs.Sizes.{size_table, block_data}
-use Rattle.dm_layout.specs.Sizes.{block_check, codeword_count}
-use Rattle.dm_layout.specs.Sizes.{row_of}
+use Rattle.dm_layout.proofs.symbols.Exported.{at_found, found_passes, greatest_of, Rises, found_first, rises_test}
+use Rattle.dm_layout.proofs.symbols.Exported.{weaker_all, found_none, same_in_each}
+use Rattle.dm_layout.specs.Sizes.{size_table, block_data, block_check, codeword_count, row_of}
 
 -- The size that is found for a side has that side and stands in the table.
 pub found_row : (side : ℕ) (s : SizeRow) → row_with_side side ≡ Some s → (s.side ≡ side) × IsRow s

@@ -2,8 +2,7 @@
 use Rattle.dm_layout.proofs.Names.{nat_tests, ◌≡◌, ◌∙◌, ℕ, ◌+◌, ◌*◌, ◌/◌, ◌%◌, ◌^◌, ◌<◌, min, not, cond, nat_eq}
 use Rattle.dm_layout.proofs.Names.{if◌then◌else◌, List, [], ◌∷◌, ◌++◌, map, refl, sym, ap, arith, range_with_len}
 use Rattle.dm_layout.proofs.Names.{div-div-eq-div-mul, pow-add, bit_at_and, bit_at-lt, is_dark_bit}
-use Rattle.std.proofs.Common.{eqb}
-use Rattle.std.proofs.Common.{bit_and, ap₂}
+use Rattle.std.proofs.Common.{eqb, bit_and, ap₂}
 use Rattle.std.specs.Simd.Lanes.{top}
 use Rattle.std.proofs.lemmas.Nat.{pow_pos}
 use Rattle.std.proofs.lemmas.Nat.Bits.{and_pow, bit_at_ones}

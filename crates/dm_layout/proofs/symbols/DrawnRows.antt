@@ -12,8 +12,7 @@ use Rattle.dm_layout.proofs.symbols.KeptRows.{whole_cells}
 use Rattle.dm_layout.proofs.symbols.Painting.{bit_put}
 use Rattle.dm_layout.specs.symbols.Holding.{IsLaid}
 use Rattle.dm_layout.proofs.symbols.Exported.{no_faults, off_border, off_edge, mapping_line-symbol_line, placed_size}
-use Rattle.dm_layout.proofs.symbols.Exported.{row_inside}
-use Rattle.dm_layout.proofs.symbols.Exported.{size_facts}
+use Rattle.dm_layout.proofs.symbols.Exported.{row_inside, size_facts}
 use Rattle.dm_layout.specs.symbols.inner.RowDrawing.{drawn_colour}
 use Rattle.dm_layout.proofs.symbols.Sizes.{column_inside}
 

@@ -17,8 +17,7 @@ pub use Rattle.dm_layout.proofs.symbols.ModulesLemmas.{module_by, modules_by, sa
 pub use Rattle.dm_layout.proofs.symbols.NoFaults.{IsBordered, bordered_of_no_faults, no_faults, summands_zero}
 pub use Rattle.dm_layout.proofs.symbols.SmallestSize.{Rises, enough, found_first, rises_test, weaker_all}
 pub use Rattle.dm_layout.proofs.symbols.SymbolLines.{mapping_line-symbol_line, off_border, off_edge, region_below}
-pub use Rattle.dm_layout.proofs.symbols.SymbolLines.{row_inside}
-pub use Rattle.dm_layout.proofs.symbols.SymbolLines.{symbol_line-form, symbol_line-mod, symbol_line-one}
+pub use Rattle.dm_layout.proofs.symbols.SymbolLines.{row_inside, symbol_line-form, symbol_line-mod, symbol_line-one}
 pub use Rattle.dm_layout.proofs.symbols.TableEntries.{block_parts, found_none, found_passes, greatest_of, put_more}
 pub use Rattle.dm_layout.proofs.symbols.TableEntries.{same_in_each, same_size, short_block, size_facts, some_block_data}
 pub use Rattle.dm_place.proofs.Exported.{at_found}

@@ -9,8 +9,7 @@ use Rattle.dm_layout.proofs.Names.{IsWords, is_border, border_is_dark, mapped_ce
 use Rattle.dm_layout.proofs.Names.{drawn_colour}
 use Rattle.dm_place.specs.Placement.{OnePlace}
 use Rattle.dm_place.specs.Holding.{AreWords, look_at}
-use Rattle.dm_place.proofs.Exported.{length-words_of}
-use Rattle.dm_place.proofs.Exported.{words_are_bytes, one_list}
+use Rattle.dm_place.proofs.Exported.{length-words_of, words_are_bytes, one_list}
 use Rattle.dm_layout.specs.symbols.Holding.{Holds, IsLaid}
 use Rattle.dm_layout.proofs.symbols.Matrices.{placed_size}
 use Rattle.dm_layout.proofs.symbols.ModulesLemmas.{modules_by, module_by, same_modules, place_below}

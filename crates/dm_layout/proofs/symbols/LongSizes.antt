@@ -1,11 +1,9 @@
 -- What holds of the sizes of more than 128 columns, and of the others.
 use Rattle.dm_layout.proofs.Names.{◌≡◌, ◌⊎◌, inl, inr, ℕ, ◌+◌, ◌-◌, ◌*◌, ◌%◌, ◌<◌, ◌≤◌, Bool, true, ◌&&◌, ◌||◌, nat_eq}
 use Rattle.dm_layout.proofs.Names.{nat_le, refl, ap, ◌∙◌, arith, list_all, and_parts, cases_lt, eqb-true, leb-true}
-use Rattle.dm_layout.proofs.Names.{lt-leb, SizeEntry, IsSize, mapping_rows, mapping_columns}
-use Rattle.dm_layout.specs.symbols.Sizes.{size_table}
+use Rattle.dm_layout.proofs.Names.{lt-leb, SizeEntry, IsSize, mapping_rows, mapping_columns, size_table}
 use Rattle.dm_layout.proofs.symbols.Sizes.{even_product, second_of}
-use Rattle.dm_layout.proofs.symbols.TableEntries.{passed_at_size}
-use Rattle.dm_layout.proofs.symbols.TableEntries.{size_facts}
+use Rattle.dm_layout.proofs.symbols.TableEntries.{passed_at_size, size_facts}
 
 -- Six regions lie side by side in such a symbol, each of 20 or 22 columns, so that the last lies across column 128.
 pub record IsLong (s : SizeEntry) : Type 0 where

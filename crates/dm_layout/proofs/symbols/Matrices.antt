@@ -4,8 +4,7 @@ use Rattle.dm_layout.proofs.Names.{list_any, and_parts, eqb-true, All-weaker, An
 use Rattle.dm_layout.proofs.Names.{row_with_sides, SizeEntry, IsSize, mapping_rows, mapping_columns}
 use Rattle.std.specs.Prelude.{Any}
 use Rattle.dm_place.specs.Sides.{SidesRow, sides_table}
-use Rattle.dm_layout.specs.symbols.Sizes.{size_table}
-use Rattle.dm_layout.specs.symbols.Sizes.{matrix_of, MatricesAgree}
+use Rattle.dm_layout.specs.symbols.Sizes.{size_table, matrix_of, MatricesAgree}
 use Rattle.dm_layout.proofs.symbols.TableEntries.{passed_at_size}
 
 -- Whether two matrices have the same rows, columns and number of codewords.

@@ -7,8 +7,7 @@ use Rattle.dm_layout.proofs.Names.{bit_at_above, Cell, Place, is_fixed, bit_of, 
 use Rattle.dm_layout.proofs.Names.{places_in_order, is_dark_bit, look_in, marks_in, one_bit, none_fixed}
 use Rattle.std.proofs.Math.Bool.{false-or, and_assoc}
 use Rattle.dm_place.specs.Placement.{bits_from}
-use Rattle.dm_place.proofs.Exported.{ArePlaces, all_are_places, place_at, lies_in}
-use Rattle.dm_place.proofs.Exported.{length-places_in_order}
+use Rattle.dm_place.proofs.Exported.{ArePlaces, all_are_places, place_at, lies_in, length-places_in_order}
 use Rattle.dm_layout.proofs.symbols.WidenedRows.{put_over, bit_up, none_up}
 
 -- ---- one bit

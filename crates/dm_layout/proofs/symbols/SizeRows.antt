@@ -2,9 +2,8 @@
 use Rattle.dm_layout.proofs.Names.{nat_tests, arith, ◌≡◌, ℕ, ◌<◌, Bool, true, false, cond, ◌&&◌, nat_eq, nat_le, List}
 use Rattle.dm_layout.proofs.Names.{[], ◌∷◌, map, length, get_or, Option, Some, refl, sym, ◌∙◌, ap, find, AllByRecursion}
 use Rattle.dm_layout.proofs.Names.{get_or-map, All-from_recursion, All-get_or, SizeChoice, SizeEntry, IsSize}
-use Rattle.dm_layout.proofs.Names.{entry_with, entry_for, takes, at_found}
+use Rattle.dm_layout.proofs.Names.{entry_with, entry_for, takes, at_found, size_table}
 use Rattle.std.proofs.Common.{option_map}
-use Rattle.dm_layout.specs.symbols.Sizes.{size_table}
 use Rattle.dm_layout.specs.declared.symbols.size_rows.TheConstants.{SIZE_ROWS}
 use Rattle.dm_layout.specs.symbols.inner.SizeRows.{row_entry, has_sides, takes_sides}
 use Rattle.dm_layout.proofs.symbols.TableEntries.{same_in_each}

@@ -1,8 +1,7 @@
 -- What holds for each size.
 use Rattle.dm_layout.proofs.Names.{◌≡◌, ℕ, ◌+◌, ◌*◌, ◌/◌, ◌%◌, ◌<◌, ◌≤◌, Bool, true, false, ◌&&◌, ◌||◌, nat_eq, refl}
 use Rattle.dm_layout.proofs.Names.{◌∙◌, ap, arith, not, eq-eqb, list_all, eqb-true, mul-le-mul_right, symbol_line}
-use Rattle.dm_layout.proofs.Names.{SizeEntry, IsSize, mapping_rows, mapping_columns}
-use Rattle.dm_layout.specs.symbols.Sizes.{size_table}
+use Rattle.dm_layout.proofs.Names.{SizeEntry, IsSize, mapping_rows, mapping_columns, size_table}
 use Rattle.dm_layout.proofs.symbols.Exported.{size_facts, symbol_line-form, region_below}
 use Rattle.dm_layout.proofs.symbols.TableEntries.{passed_at_size}
 

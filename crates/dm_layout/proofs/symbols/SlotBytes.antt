@@ -5,15 +5,13 @@ use Rattle.dm_layout.proofs.Names.{sym, ◌∙◌, ap, arith, subst, get_or-set_
 use Rattle.dm_layout.proofs.Names.{to_le_bytes, w128, bit_or, put_mid, or-false, drop-append_seam, take-append_seam}
 use Rattle.dm_layout.proofs.Names.{div-div-eq-div-mul, pow-suc, le-leb, lt-leb, cases_lt, cases_eq, length-set, or_lt}
 use Rattle.dm_layout.proofs.Names.{pow-add, mod_below, bit_at-zero, bit_at_cat_low, bit_at_cat_high, bit_at_above}
-use Rattle.dm_layout.proofs.Names.{is_dark_bit}
+use Rattle.dm_layout.proofs.Names.{is_dark_bit, in_bytes}
 use Rattle.std.proofs.Common.{append-nil}
 use Rattle.std.specs.Int.{bytes_low_first, byte_at, w64}
 use Rattle.std.proofs.Math.Arith.{mod-mul}
 use Rattle.std.proofs.lemmas.List.{drop_all}
 use Rattle.std.proofs.lemmas.Nat.{pow_pos}
-use Rattle.dm_layout.specs.symbols.inner.Slots.{in_bytes}
-use Rattle.dm_layout.proofs.symbols.Rows.{or_dark}
-use Rattle.dm_layout.proofs.symbols.Rows.{same_row_numbers}
+use Rattle.dm_layout.proofs.symbols.Rows.{or_dark, same_row_numbers}
 use Rattle.dm_layout.proofs.symbols.LaidSlots.{byte_up, byte_fits}
 
 -- Eight bytes have the number that `from_le_bytes` gives.

@@ -7,8 +7,7 @@ use Rattle.dm_layout.proofs.Names.{mapping_rows, mapping_columns, shapes, cells_
 use Rattle.dm_layout.proofs.Names.{Corner3, Corner4, few_shapes, inside_test, count_at_sides, bytes_of, most_of}
 use Rattle.dm_layout.proofs.Names.{order_of, slot_of, HasSlot, rest_order_of, less_of}
 use Rattle.std.specs.Cmp.Lexicographic.{same_text}
-use Rattle.std.proofs.lemmas.List.{take_more, take_more_set}
-use Rattle.std.proofs.lemmas.List.{get_or-append-add}
+use Rattle.std.proofs.lemmas.List.{take_more, take_more_set, get_or-append-add}
 use Rattle.dm_layout.proofs.symbols.Exported.{placed_size, size_facts}
 use Rattle.dm_place.proofs.Exported.{shapes-few}
 use Rattle.dm_layout.specs.symbols.inner.Slots.{first_order_of}

@@ -4,14 +4,11 @@ use Rattle.dm_layout.proofs.Names.{length, length-take, get_or, set, take, drop,
 use Rattle.dm_layout.proofs.Names.{subst, bit_or, put_mid, div-add-mod, mod-lt, mul-le-mul_left, take-append_seam}
 use Rattle.dm_layout.proofs.Names.{drop-append_seam, take-set-lt, get_or-map, get_or-take, get_or-drop, map-set}
 use Rattle.dm_layout.proofs.Names.{length-drop, length-set, length-replicate, length-take-le, with_byte, slot_byte}
-use Rattle.dm_layout.proofs.Names.{slot_numbers, slot_rows}
+use Rattle.dm_layout.proofs.Names.{slot_numbers, slot_rows, in_bytes}
 use Rattle.std.proofs.Common.{append_assoc, length-append}
 use Rattle.std.specs.Simd.{first_chunks}
 use Rattle.std.proofs.Math.Seq.{take-add}
-use Rattle.std.proofs.lemmas.List.{drop-drop}
-use Rattle.std.proofs.lemmas.List.{get_or_default, take-set-le}
-use Rattle.std.proofs.lemmas.List.{drop-set-lt, drop-set-add}
-use Rattle.dm_layout.specs.symbols.inner.Slots.{in_bytes}
+use Rattle.std.proofs.lemmas.List.{drop-drop, get_or_default, take-set-le, drop-set-lt, drop-set-add}
 use Rattle.dm_layout.proofs.symbols.SlotBytes.{byte_over, in_bytes_byte}
 
 -- ---- bytes row by row

@@ -9,11 +9,9 @@ use Rattle.dm_layout.proofs.Names.{look_in, with_byte, reversed_bits, LOW_TWO_BI
 use Rattle.dm_layout.proofs.Names.{NARROW_LOW_THREE_BITS, all_below, cells_of, Corner1, Corner2, Corner3, Corner4}
 use Rattle.dm_layout.proofs.Names.{IsJoined, HasSlots, first_column, slot_byte}
 use Rattle.std.specs.Int.Bits.{or_zero_l}
-use Rattle.dm_layout.specs.symbols.inner.Slots.{is_joined}
+use Rattle.dm_layout.specs.symbols.inner.Slots.{is_joined, AreJoined, word_in}
 use Rattle.dm_layout.specs.declared.symbols.slots.TheConstants.{REVERSED}
-use Rattle.dm_layout.proofs.symbols.Rows.{or_dark}
-use Rattle.dm_layout.specs.symbols.inner.Slots.{AreJoined, word_in}
-use Rattle.dm_layout.proofs.symbols.Rows.{moved_bit}
+use Rattle.dm_layout.proofs.symbols.Rows.{or_dark, moved_bit}
 use Rattle.dm_layout.proofs.symbols.WidenedRows.{bit_up, none_up, low_bit}
 
 -- ---- bytes with their bits in the opposite order

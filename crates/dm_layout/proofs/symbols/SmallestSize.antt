@@ -3,8 +3,7 @@ use Rattle.dm_layout.proofs.Names.{nat_tests, ◌≡◌, ℕ, ◌<◌, ◌≤◌
 use Rattle.dm_layout.proofs.Names.{nat_le, List, [], ◌∷◌, Option, Some, None, refl, sym, ◌∙◌, ap, arith, eq-eqb, All}
 use Rattle.dm_layout.proofs.Names.{IfSome, IfNone, find, AllByRecursion, list_all, and_parts, leb-true, leb-false}
 use Rattle.dm_layout.proofs.Names.{le-leb, All-from_recursion, recursion_from_All, AllPass-from_list_all, SizeChoice}
-use Rattle.dm_layout.proofs.Names.{SizeEntry, takes, entry_for, area}
-use Rattle.dm_layout.specs.symbols.Sizes.{size_table}
+use Rattle.dm_layout.proofs.Names.{SizeEntry, takes, entry_for, area, size_table}
 use Rattle.dm_layout.proofs.symbols.TableEntries.{found_none, found_passes}
 
 -- A size is at most as large as another: it has fewer modules, or as many and at most as many columns.

@@ -7,9 +7,7 @@ use Rattle.dm_layout.proofs.Names.{recursion_from_All, All-weaker, Any-from_list
 use Rattle.dm_layout.proofs.Names.{IsSize, area, mapping_rows, mapping_columns, codeword_count, block_data, block_check}
 use Rattle.dm_layout.proofs.Names.{most_rows, most_columns, most_modules, most_cells, most_data, most_codewords}
 use Rattle.dm_layout.proofs.Names.{most_blocks, most_block_check, all_below, at_found}
-use Rattle.dm_layout.specs.symbols.Sizes.{size_table}
-use Rattle.dm_layout.specs.symbols.Sizes.{block_length}
-use Rattle.dm_layout.specs.symbols.Sizes.{longest_block, IsGreatest, IsGreatestOf, Agrees}
+use Rattle.dm_layout.specs.symbols.Sizes.{size_table, block_length, longest_block, IsGreatest, IsGreatestOf, Agrees}
 
 -- What is found passes the test, if it does so among the other items.
 passes_case : {X : Type 0} (p : X → Bool) (y x : X) (o : Option X) (b : Bool) → p y ≡ b → (o ≡ Some x → p x ≡ true) →

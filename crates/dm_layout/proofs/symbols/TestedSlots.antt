@@ -2,8 +2,7 @@
 -- cell of a shape lies in the matrix. Its rows have room for the matrix.
 use Rattle.dm_layout.proofs.Names.{◌≡◌, true, ◌&&◌, refl, map, ℕ, Bool, nat_eq, nat_le, ◌*◌, list_all, pointwise}
 use Rattle.dm_layout.proofs.Names.{mapping_rows, mapping_columns, bytes_of, most_of, order_of, slot_of, rest_order_of}
-use Rattle.dm_layout.proofs.Names.{less_of}
-use Rattle.dm_layout.specs.symbols.Sizes.{size_table}
+use Rattle.dm_layout.proofs.Names.{less_of, size_table}
 use Rattle.dm_place.proofs.Exported.{few_shapes}
 use Rattle.dm_layout.proofs.symbols.LiftedWords.{fits_test}
 

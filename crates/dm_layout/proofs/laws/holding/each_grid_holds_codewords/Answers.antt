@@ -1,5 +1,4 @@
-use Rattle.dm_layout.proofs.Squares.{every_grid_holds}
-use Rattle.dm_layout.proofs.Squares.{one_list}
+use Rattle.dm_layout.proofs.Squares.{every_grid_holds, one_list}
 use Rattle.dm_layout.proofs.laws.holding.each_grid_holds_codewords.Goals as goal
 
 pub returns : goal.returns

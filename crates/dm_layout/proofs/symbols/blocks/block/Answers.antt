@@ -1,6 +1,5 @@
-use Rattle.dm_layout.proofs.Names.{◌≡◌, ◌+◌, ◌*◌, ◌∙◌, ℕ, sym, refl, ap, [], ◌∷◌, ◌++◌, map, get_or, length}
-use Rattle.dm_layout.proofs.Names.{arith, lit<}
-use Rattle.dm_layout.proofs.Names.{range_with_len, length-map-range_with_len, count_in_block, words_with}
+use Rattle.dm_layout.proofs.Names.{◌≡◌, ◌+◌, ◌*◌, ◌∙◌, ℕ, sym, refl, ap, [], ◌∷◌, ◌++◌, map, get_or, length, arith}
+use Rattle.dm_layout.proofs.Names.{lit<, range_with_len, length-map-range_with_len, count_in_block, words_with}
 use Rattle.std.proofs.lemmas.List.FromFn.{map-range_with_len_more}
 use Rattle.dm_layout.proofs.symbols.TableEntries.{short_block}
 use Rattle.dm_layout.proofs.symbols.BlockLemmas.{steps_of_block, walk_of_block, data_of_block}

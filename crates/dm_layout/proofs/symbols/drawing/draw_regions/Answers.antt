@@ -1,6 +1,6 @@
 use Rattle.dm_layout.proofs.Names.{◌≡◌, inl, inr, ℕ, ◌+◌, ◌*◌, ◌%◌, ◌<◌, ◌≤◌, ◌&&◌, ◌∙◌, ap, refl, subst, arith}
 use Rattle.dm_layout.proofs.Names.{SizeEntry, IsSize, most_rows, is_on_edge, edge_is_dark, look_in, whole_row}
-use Rattle.dm_layout.proofs.Names.{is_dark_bit}
+use Rattle.dm_layout.proofs.Names.{is_dark_bit, common_steps}
 use Rattle.dm_layout.specs.symbols.inner.RowDrawing.{drawn_colour}
 use Rattle.dm_layout.proofs.symbols.DrawnRows.{drawn_to, edge_line}
 use Rattle.dm_layout.proofs.symbols.Sizes.{region_within}
@@ -118,3 +118,6 @@ returns-clause-drawn g c =
     (edges_of c.args.borders.now c.args.size n (whole_row c.dark-cells-2.result.0 c.dark-cells-2.result.1)
     c.requires.borders c.dark-cells-2.ensures.cells))
     c.put_line-2.ensures.first c.put_line-2.ensures.behind c.put_line-2.ensures.others
+
+pub overflow_add-first-in-loop-inner : goal.overflow_add-first-in-loop-inner
+overflow_add-first-in-loop-inner g c = grind (arith, common_steps)

@@ -1,8 +1,6 @@
 use Rattle.dm_layout.proofs.Names.{ℕ, ◌+◌, ◌^◌, ◌<◌, ◌≤◌, Option, ap, ◌∙◌, arith, count_ones, SymbolView, is_dark_bit}
 use Rattle.dm_layout.proofs.Names.{SizeEntry}
-use Rattle.dm_layout.proofs.symbols.SureCells.{IsLine, short_count, some_wide, sure_count}
-use Rattle.dm_layout.proofs.symbols.SureCells.{sure_few}
-use Rattle.dm_layout.proofs.symbols.SureCells.{sure_most}
+use Rattle.dm_layout.proofs.symbols.SureCells.{IsLine, short_count, some_wide, sure_count, sure_few, sure_most}
 use Rattle.dm_layout.proofs.symbols.TableEntries.{size_facts}
 use Rattle.dm_layout.proofs.symbols.faults.row_faults.Given as given
 use Rattle.dm_layout.proofs.symbols.faults.row_faults.Goals as goal

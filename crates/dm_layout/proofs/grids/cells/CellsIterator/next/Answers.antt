@@ -1,5 +1,4 @@
-use Rattle.std.proofs.Common.{arith}
-use Rattle.std.proofs.lemmas.Grind.{common_steps}
+use Rattle.dm_layout.proofs.Names.{arith, common_steps}
 use Rattle.dm_place.proofs.Exported.{goes_first}
 use Rattle.dm_layout.proofs.grids.cells.CellsIterator.next.Goals as goal
 

@@ -2,6 +2,7 @@ use Rattle.dm_layout.proofs.Names.{◌∙◌, ℕ, List, ap, ◌+◌, ◌/◌, �
 use Rattle.dm_layout.proofs.symbols.SlotBytes.{eight_first}
 use Rattle.dm_layout.proofs.symbols.SlotRows.{joined_in, narrow_masks_at}
 use Rattle.dm_layout.proofs.symbols.WidenedRows.{low_bit}
+use Rattle.dm_layout.proofs.Names.{arith, common_steps}
 use Rattle.dm_layout.proofs.symbols.narrow_rows.NarrowRowsBitRows.join.Goals as goal
 
 pub returns-clause-cells : goal.returns-clause-cells
@@ -13,3 +14,6 @@ returns-clause-cells c = λ room q l.
     ∙ joined_in 64 _ _ narrow_masks_at (get_or c.args.self.now c.args.row 0 / 2 ^ c.args.column)
     (get_or c.args.self.now (c.args.row + 1) 0 / 2 ^ c.args.column)
     (get_or c.args.self.now (c.args.row + 2) 0 / 2 ^ c.args.column) q l
+
+pub put_row-requires : goal.put_row-requires
+put_row-requires c = grind (arith, common_steps)
