@@ -31,8 +31,8 @@ pub use Rattle.dm_symbol.specs.SmallestContentSymbol.{IsSmallestContentWritten}
 pub use Rattle.dm_symbol.specs.SymbolBlocks.{AreCodewordsOf, AreOfSize, first_data, words_with}
 pub use Rattle.dm_symbol.specs.SymbolInspection.{IsSymbolInspection}
 pub use Rattle.dm_symbol.specs.SymbolLaws.{AreLight, nothing_wrong}
-pub use Rattle.dm_symbol.specs.SymbolReading.{AreBlocksMended, AreLost, AreRestored, AreRestoredBy, IsBlockRestored}
-pub use Rattle.dm_symbol.specs.SymbolReading.{IsFirstLost, block_reading, readings_by}
+pub use Rattle.dm_symbol.specs.SymbolReading.{AreBlocksMended, AreBlocksNear, AreLost, AreRestored, AreRestoredBy}
+pub use Rattle.dm_symbol.specs.SymbolReading.{IsBlockRestored, IsFirstLost, block_reading, block_readings, readings_by}
 pub use Rattle.dm_symbol.specs.WrittenContent.{AreChosen, IsWrittenAs}
 pub use Rattle.dm_symbol.specs.WrittenWords.{FitChoice}
 pub use Rattle.dm_symbol.specs.declared.contents.ContentNormalFault.{ContentNormalFault}
@@ -48,7 +48,6 @@ pub use Rattle.dm_symbol.specs.declared.symbol.inspection.SymbolInspectionIn.{Sy
 pub use Rattle.dm_symbol.specs.declared.symbol.reading.BlockReading.{BlockReading}
 pub use Rattle.dm_symbol.specs.inner.Marks.{is_mark, marked_in}
 pub use Rattle.dm_symbol.specs.inner.Restoring.{AreHeldBy, IsRestarted}
-pub use Rattle.dm_symbol.specs.SymbolReading.{AreBlocksNear, block_readings}
 pub use Rattle.dm_symbol.specs.inner.Showing.{IsMended}
 pub use Rattle.dm_symbol.specs.inner.Turns.{turned, turned_place}
 pub use Rattle.dm_words.proofs.Exported.{identifier_is_there, said_is_one, said_wide, usual_plain}

@@ -7,8 +7,7 @@ use Rattle.ecc200_calls.proofs.Names.{take-append_seam, range_with_len, fill_by_
 use Rattle.ecc200_calls.proofs.Names.{length-map-range_with_len, put_chunk_is, take_more_put_chunk, is_dark_bit}
 use Rattle.ecc200_calls.proofs.Names.{cut_cell, module_of, unpacked_cells, unpacked_row}
 use Rattle.std.specs.Simd.Lanes.{put_chunk}
-use Rattle.std.proofs.lemmas.List.{get_or-append_right}
-use Rattle.std.proofs.lemmas.List.{length-append, length-take}
+use Rattle.std.proofs.lemmas.List.{get_or-append_right, length-append, length-take}
 use Rattle.std.proofs.lemmas.Slice.{drop-append-drop}
 
 -- Sixteen modules are unpacked together.

@@ -3,9 +3,8 @@ use Rattle.ecc200_calls.proofs.Names.{◌≡◌, ◌⊎◌, inl, inr, ℕ, ◌*�
 use Rattle.ecc200_calls.proofs.Names.{refl, sym, ◌∙◌, ap, arith, All, length-map, Head, Item, Mark, IsMessage, Profile}
 use Rattle.ecc200_calls.proofs.Names.{SizeChoice, TooLong, ContentView, IsContent, AreMarks, size_facts, entry_for}
 use Rattle.ecc200_calls.proofs.Names.{most_data, ContentFits, form_written_is_plain, no_content_written}
-use Rattle.ecc200_calls.proofs.Names.{no_words_written, Profiled, Smallest, MarkNumbers, SymbolOut, number_of}
-use Rattle.ecc200_calls.proofs.Names.{map, IsContentOf, marks_of, mark_shown, no_symbol, IsContentGiven}
-use Rattle.ecc200_calls.proofs.Names.{IsWritingGiven}
+use Rattle.ecc200_calls.proofs.Names.{no_words_written, Profiled, Smallest, MarkNumbers, SymbolOut, number_of, map}
+use Rattle.ecc200_calls.proofs.Names.{IsContentOf, marks_of, mark_shown, no_symbol, IsContentGiven, IsWritingGiven}
 use Rattle.ecc200_calls.specs.Faults.{fault}
 use Rattle.dm_words.specs.Heads.{IsHead}
 use Rattle.dm_words.specs.ContentForm.{content_form}

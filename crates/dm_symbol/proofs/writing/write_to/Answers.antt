@@ -1,6 +1,5 @@
 use Rattle.dm_symbol.proofs.Names.{◌≡◌, ◌≤◌, ◌∙◌, ◌<◌, ℕ, length, length-take, length-take-le, refl, sym, ap, subst}
-use Rattle.dm_symbol.proofs.Names.{Some}
-use Rattle.dm_symbol.proofs.Names.{arith, rules, take, SizeEntry, codeword_count, first_words, most_grid_data}
+use Rattle.dm_symbol.proofs.Names.{Some, arith, rules, take, SizeEntry, codeword_count, first_words, most_grid_data}
 use Rattle.dm_symbol.proofs.Names.{row_for_words, symbol_size, symbol_modules, Square, row_facts, normal_form}
 use Rattle.dm_symbol.proofs.Names.{AreCodewordsOf, first_data}
 use Rattle.dm_symbol.proofs.GridNormals.{is_written, none_is_written, too_long_fits_none}

@@ -1,5 +1,4 @@
-use Rattle.ecc200_calls.proofs.Names.{◌≡◌, ◌<◌, ◌≤◌, ◌+◌, ◌*◌, ◌%◌, ◌^◌, ◌∙◌, arith, ap, bit_or, is_dark_bit}
-use Rattle.ecc200_calls.proofs.Names.{is_dark}
+use Rattle.ecc200_calls.proofs.Names.{◌≡◌, ◌<◌, ◌≤◌, ◌+◌, ◌*◌, ◌%◌, ◌^◌, ◌∙◌, arith, ap, bit_or, is_dark_bit, is_dark}
 use Rattle.ecc200_calls.proofs.Packing.{together_is, together_more, together_small, rest_at}
 use Rattle.ecc200_calls.proofs.modules.pack_on.Goals as goal
 

@@ -1,6 +1,5 @@
 use Rattle.dm_symbol.proofs.Names.{◌≡◌, ◌≤◌, ◌∙◌, ℕ, Err, ap, arith, entry_for, length, length-take, length-take-le}
-use Rattle.dm_symbol.proofs.Names.{Some, refl}
-use Rattle.dm_symbol.proofs.Names.{sym, take}
+use Rattle.dm_symbol.proofs.Names.{Some, refl, sym, take}
 use Rattle.std.proofs.lemmas.List.{take_at}
 use borrow.Rule.Slice.PartMut.{post_of}
 use Rattle.dm_words.specs.ContentForm.{form_by}
