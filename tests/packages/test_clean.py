@@ -14,9 +14,10 @@ USES = ["cd /tmp", "ecc200 read /m/out/first/label.png",
         "python3 -c 'import ecc200; print(ecc200.decode(\"/m/out/first/label.png\")[0].text)'",
         "cc -std=c11 -Wall -Wextra -Werror ~/.local/share/doc/libecc200-dev/examples/example.c -I ~/.local/include "
         "-L ~/.local/lib -lecc200 -o example", "./example | tail -n 1"]
-# How a command of the shell is run in a root, which has the system's processes and devices then.
-INSIDE = ('mount -t proc proc "$0/proc" && mount --rbind /dev "$0/dev" && '
-          'exec chroot "$0" /usr/bin/env -i PATH=/usr/sbin:/usr/bin:/sbin:/bin HOME=/root /bin/sh -c "$1"')
+# How a command has mounts of its own, the second way in a root; and one of the shell a root, with devices.
+APART = (["unshare", "--mount"], ["unshare", "--mount", "--propagation=unchanged"])
+INSIDE = ('mount --bind "$0" "$0" && mount --make-private "$0" && mount -t proc proc "$0/proc" && mount --rbind /dev '
+          '"$0/dev" && exec chroot "$0" /usr/bin/env -i PATH=/usr/sbin:/usr/bin:/sbin:/bin HOME=/root /bin/sh -c "$1"')
 # Pieces of work, of which a minute and three of an idle machine are some 600 and 1,800.
 MOST_TO_BUILD, MOST_TO_CHECK = 1_000, 3_000
 
@@ -30,14 +31,15 @@ class Clean(Case):
         status, told = needs.debian(cls.root, ["git", *WANTED], "--variant=minbase")
         if status:
             raise unittest.SkipTest(f"Debian can't be had ({told.strip().splitlines()[-1:]})")
-        if commands.said(["unshare", "--mount", "true"])[0]:
+        cls.apart = next((it for it in APART if not commands.said([*it, "true"])[0]), None)
+        if not cls.apart:
             raise unittest.SkipTest("nothing can be mounted here")
         subprocess.run(["git", "clone", "--quiet", "--bare", places.TOP, f"{cls.root}/source.git"], check=True)
 
     def done(self, words):
         """Status, output, and the work of a command of the shell in the root."""
         with work.measured() as took:
-            status, told = commands.said(["unshare", "--mount", "sh", "-c", INSIDE, self.root, words], timeout=3600)
+            status, told = commands.said([*self.apart, "sh", "-c", INSIDE, self.root, words], timeout=3600)
         return status, told, took
 
     def test_a_label_is_read_and_what_was_built_is_tested(self):
