@@ -12,28 +12,30 @@ from tests.page.stage import (HEIGHT, WIDTH, RemoteConnection, Service, UselessF
 from tests.support import commands, needs, places
 
 PATIENCE = 900  # seconds in which each command to the browser has to be answered
-WORDS = ("--headless=new", "--no-sandbox", "--disable-gpu", "--disable-dev-shm-usage", "--hide-scrollbars",
+CHROMIUM = ("chromium-headless-shell", "chromedriver")  # Chromium without its windows, which take half of the work
+WORDS = ("--no-sandbox", "--disable-gpu", "--disable-dev-shm-usage", "--hide-scrollbars",
          f"--window-size={WIDTH},{HEIGHT}")
+PERMISSIONS = {"permissions": ["clipboardReadWrite", "clipboardSanitizedWrite"]}
 started = []  # the drivers, of which each leads a session of processes
 
 
-def options_of(folder):
+def options():
     options = webdriver.ChromeOptions()
-    for word in (*WORDS, f"--user-data-dir={folder}"):
+    options.binary_location = shutil.which(CHROMIUM[0])
+    for word in WORDS:
         options.add_argument(word)
-    options.add_experimental_option("prefs", {
-        "download.default_directory": str(on.folder), "profile.default_content_setting_values.automatic_downloads": 1,
-        "profile.content_settings.exceptions.clipboard": {"*": {"setting": 1}}})
+    options.add_experimental_option("prefs", {"download.default_directory": str(on.folder)})
     options.set_capability("goog:loggingPrefs", {"browser": "ALL"})
     return options
 
 
 def opened():
-    """A new browser, with a profile of its own."""
+    """A new browser, with a profile of its own, which its driver makes."""
     RemoteConnection.set_timeout(PATIENCE)
     service = Service(shutil.which("chromedriver"), popen_kw={"start_new_session": True})
     started.append(service)
-    browser = webdriver.Chrome(service=service, options=options_of(on.folder / f"profile-{len(started)}"))
+    browser = webdriver.Chrome(service=service, options=options())
+    browser.execute_cdp_cmd("Browser.grantPermissions", PERMISSIONS)
     browser.set_script_timeout(PATIENCE)
     return browser
 
@@ -57,7 +59,7 @@ def have():
 
 def lacking():
     """Brings the page up to date; what isn't there that this or a browser needs, if something isn't."""
-    programs = needs.lacking("chromium", "chromedriver", "node", *needs.PAGE)
+    programs = needs.lacking(*CHROMIUM, "node", *needs.PAGE)
     return programs or ("" if webdriver else "selenium isn't installed") or needs.made("page")
 
 

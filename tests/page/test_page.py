@@ -1,6 +1,6 @@
 """The page in headless Chromium against the program: what is typed, clicked and dragged there, and what the page shows.
 A case for each part; the parts are shared out among some browsers. Nothing is proved here."""
-from tests.page import crew
+from tests.page import browser, crew
 from tests.page.parts import PARTS
 from tests.support import needs, places
 from tests.support.case import Case
@@ -12,7 +12,7 @@ PATIENCE = 1800  # seconds in which a part has to end that others wait for
 @needs.program
 @needs.module("selenium")
 @needs.page
-@needs.programs("chromium", "chromedriver")
+@needs.programs(*browser.CHROMIUM)
 class Page(Case):
     chosen = []  # the parts that are to be run, by their names
 

@@ -81,11 +81,6 @@ def two_processes():
         signal.signal(signal.SIGTERM, before)
 
 
-def raised_in_pool():
-    with two_processes() as pool:
-        return pool.map_async(raising, [11] * 4).get(timeout=60)
-
-
 class Module(PackageCase):
     def test_forms(self):
         """Each mark says the same in whichever form it is given; what that is, tests/library asks."""
@@ -124,7 +119,8 @@ class Module(PackageCase):
         self.row("many from an iterator", told(ecc200.read_many(iter(grids))), wanted)
         with two_processes() as pool:
             self.row("many by processes", told(pool.map_async(answer_or_refusal, grids).get(timeout=60)), wanted)
-        self.raises("a refusal that a process raises", ecc200.Refused, "SIZE, value 11", raised_in_pool)
+            self.raises("a refusal that a process raises", ecc200.Refused, "SIZE, value 11",
+                        lambda: pool.map_async(raising, [11] * 4).get(timeout=60))
         numpy = self.wanted_module("numpy", "numpy", "many grids in an array")
         if numpy:
             block = numpy.array([[list(row) for row in ecc200.write(b"%06d" % number)] for number in range(200)],

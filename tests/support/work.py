@@ -42,6 +42,6 @@ def measured():
     work.pieces = work.seconds / max(before, known())
 
 
-def least(call):
-    """The least seconds that the processes of a call take in five turns: what else is run makes them more."""
-    return min(took(call) for _ in range(5))
+def leasts(*calls):
+    """The least seconds that the processes of each call take in eight rounds: what else is run makes them more."""
+    return [min(each) for each in zip(*([took(it) for it in calls] for _ in range(8)))]
