@@ -15,7 +15,6 @@ PATIENCE = 900  # seconds in which each command to the browser has to be answere
 CHROMIUM = ("chromium-headless-shell", "chromedriver")  # Chromium without its windows, which take half of the work
 WORDS = ("--no-sandbox", "--disable-gpu", "--disable-dev-shm-usage", "--hide-scrollbars",
          f"--window-size={WIDTH},{HEIGHT}")
-PERMISSIONS = {"permissions": ["clipboardReadWrite", "clipboardSanitizedWrite"]}
 started = []  # the drivers, of which each leads a session of processes
 
 
@@ -34,10 +33,10 @@ def opened():
     RemoteConnection.set_timeout(PATIENCE)
     service = Service(shutil.which("chromedriver"), popen_kw={"start_new_session": True})
     started.append(service)
-    browser = webdriver.Chrome(service=service, options=options())
-    browser.execute_cdp_cmd("Browser.grantPermissions", PERMISSIONS)
-    browser.set_script_timeout(PATIENCE)
-    return browser
+    page = webdriver.Chrome(service=service, options=options())
+    page.execute_cdp_cmd("Browser.grantPermissions", {"permissions": ["clipboardReadWrite", "clipboardSanitizedWrite"]})
+    page.set_script_timeout(PATIENCE)
+    return page
 
 
 def start():
