@@ -99,15 +99,14 @@ class Callers:
         return folder
 
     def in_python(self):
-        """The Python module, by python_module.py, which says a line for each test."""
+        """The Python module, by python_module.py."""
         own, other = (os.path.join(folder, "libecc200.so") for folder in (self.built, self.other()))
         asked = "".join(f"{request}\n{wanted}\n" for request, wanted in self.interface.calls())
         found = commands.environment(ECC200_LIBRARY=own, OTHER_LIBRARY=other, VERSION=self.interface.version,
                                      REQUESTS=places.wrote(asked, self.made("requests")))
         words = [self.system.python, "-m", "tests.library.python_module", self.source("python", "ecc200", "core.py")]
         done = commands.run(words, env=found, cwd=places.TOP, timeout=1800)
-        for line in done.output.decode().splitlines():
-            name, problem = json.loads(line)
+        for name, problem in json.loads(done.output or "[]"):
             yield f"Python: {name}", problem
         yield "Python: its end", None if done.status == 0 else done.errors.decode(errors="replace")[-3000:]
 

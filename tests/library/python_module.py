@@ -2,7 +2,7 @@
 size, grids of many kinds, pictures, and which library is loaded. The argument is the path of core.py; ECC200_LIBRARY is
 the library, OTHER_LIBRARY one with another interface, VERSION the version of the library, REQUESTS a file with the
 requests, each on a line before the answer that is wanted. It is a process of its own, since the module loads its
-library as it is imported, and prints a line of JSON for each test: its name, and what is wrong or null."""
+library as it is imported, and prints the tests as JSON: the name of each, and what is wrong or null."""
 import array
 import ctypes
 import importlib.util
@@ -489,5 +489,4 @@ def tried():
 
 
 if __name__ == "__main__":
-    for row in tried():
-        print(json.dumps(row))
+    print(json.dumps([*tried()]))
