@@ -1,6 +1,7 @@
 """The page's modules have the types that their comments say, as TypeScript's checker sees them, which is strict: each
 value has a type, what may be missing is looked at first, and what is called is there and is given what it takes. ESLint
 isn't asked: what it would say of unused names, this does too."""
+import json
 import pathlib
 import shutil
 
@@ -20,33 +21,23 @@ WRONG = [("flow.mjs", "it.limit = limit;", "it.limits = limit;"),
          ("pdf.mjs", "/** @type {(value: number) => string} */\n", "")]
 
 
-def said(folder):
-    """The status of the checker over the modules in a folder, and what it says."""
-    return commands.said(["tsc", "-p", str(folder / "tests" / "page" / "types.json")])
-
-
 @needs.programs("tsc")
 class Types(Case):
-    def copy(self, more=()):
-        """A copy of the modules, with texts put in the place of others."""
+    def test_modules_and_what_is_wrong(self):
+        """The modules, and copies beside them with texts put in the place of others, in one run."""
         folder = pathlib.Path(self.folder())
-        (folder / "tests" / "page").mkdir(parents=True)
-        (folder / "web").mkdir()
         for name in ("types.json", "types.d.ts"):
-            shutil.copy(HERE / name, folder / "tests" / "page")
-        for module in WEB.glob("*.mjs"):
-            shutil.copy(module, folder / "web")
-        for name, old, new in more:
-            text = (folder / "web" / name).read_text(encoding="utf-8")
-            assert text.count(old) == 1, f"{old} stands {text.count(old)} times in {name}"
-            (folder / "web" / name).write_text(text.replace(old, new), encoding="utf-8")
-        return folder
-
-    def test_modules(self):
-        self.row("what tsc says", said(self.copy()), (0, ""))
-
-    def test_what_is_wrong_is_told(self):
-        status, lines = said(self.copy(WRONG))
-        self.assertNotEqual(status, 0)
+            shutil.copy(HERE / name, folder)
+        for kind in ("web", "wrong"):
+            shutil.copytree(WEB, folder / kind, ignore=lambda _, names: [it for it in names if not it.endswith(".mjs")])
         for name, old, new in WRONG:
-            self.row(f"{new} for {old} in {name}", f"web/{name}(" in lines, True)
+            path = folder / "wrong" / name
+            text = path.read_text(encoding="utf-8")
+            assert text.count(old) == 1, f"{old} stands {text.count(old)} times in {name}"
+            path.write_text(text.replace(old, new), encoding="utf-8")
+        asked = {"extends": "./types.json", "include": ["web/*.mjs", "wrong/*.mjs", "types.d.ts"]}
+        (folder / "tsconfig.json").write_text(json.dumps(asked))
+        told = commands.said(["tsc"], cwd=folder)[1].splitlines()
+        self.row("what tsc says", [it for it in told if not it.startswith(("wrong/", " "))], [])
+        for name, old, new in WRONG:
+            self.row(f"{new} for {old} in {name}", any(it.startswith(f"wrong/{name}(") for it in told), True)
