@@ -118,9 +118,8 @@ class Node(Clone):
         for name, line in lines.items():
             places.wrote(f'import {{ write }} from "ecc200";\n{line}\nvoid rows;\n', self.user, f"{name}.mts")
         words = "tsc --strict --noEmit --target es2022 --module node16 --moduleResolution node16 right.mts wrong.mts"
-        told = self.said(words.split(), "user")[1]
-        for name in lines:
-            self.row(name, f"{name}.mts(" not in told, name == "right")
+        told = self.said(words.split(), "user")[1].splitlines()
+        self.row("what has faults", {line.partition("(")[0] for line in told if line[:1] != " "}, {"wrong.mts"})
 
 
 class Shells(Case):

@@ -18,7 +18,7 @@ WORDS = ("--no-sandbox", "--disable-gpu", "--disable-dev-shm-usage", "--hide-scr
 started = []  # the drivers, of which each leads a session of processes
 
 
-def options():
+def usual_options():
     options = webdriver.ChromeOptions()
     options.binary_location = shutil.which(CHROMIUM[0])
     for word in WORDS:
@@ -33,7 +33,7 @@ def opened():
     RemoteConnection.set_timeout(PATIENCE)
     service = Service(shutil.which("chromedriver"), popen_kw={"start_new_session": True})
     started.append(service)
-    page = webdriver.Chrome(service=service, options=options())
+    page = webdriver.Chrome(service=service, options=usual_options())
     page.execute_cdp_cmd("Browser.grantPermissions", {"permissions": ["clipboardReadWrite", "clipboardSanitizedWrite"]})
     page.set_script_timeout(PATIENCE)
     return page
