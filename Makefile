@@ -58,7 +58,7 @@ help:
 	@echo "make page      builds the page, one file for a browser: a minute after make build"
 	@echo "make compiled  makes compiled/ anew of the proved library: a minute after make library"
 	@echo "make try       shows dm_tool at work, unproved if it isn't built yet: half a minute"
-	@echo "make test      the merge gate, every proof from scratch and all tests: an hour and a half of processor time"
+	@echo "make test      the merge gate, every proof from scratch and all tests: an hour or more of processor time"
 	@echo "With TARGET library, sampler, wheel, deb and dist build for another system, by cross compilers of Debian:"
 	@echo "aarch64-unknown-linux-gnu, riscv64-unknown-linux-gnu, or x86_64-w64-windows-gnu"
 	@echo "make bench     times the program and the library beside others that are installed: minutes"

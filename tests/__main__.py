@@ -74,8 +74,9 @@ def main():
     words.add_argument("--proofs", action="store_true", help="begin with tests/proofs, and count what it does")
     words.add_argument("--users", action="store_true", help="run what tests/support/users.py names")
     words.add_argument("-j", metavar="COUNT", type=int,
-                       default=int(os.environ.get("RT_JOBS") or len(os.sched_getaffinity(0))),
-                       help="run so many subjects at a time; by default RT_JOBS, or as many as there are processors")
+                       default=int(os.environ.get("RT_JOBS") or len(os.sched_getaffinity(0)) + 1),
+                       help="run so many subjects at a time; by default RT_JOBS, or one more than there are "
+                       "processors, since some wait")
     words.add_argument("--lane", metavar="FILE", type=int, help=argparse.SUPPRESS)  # that takes what becomes of a lane
     words.add_argument("-k", metavar="WORD", action="append", default=[], help="run cases whose names have this word")
     words.add_argument("names", metavar="SUBJECT", nargs="*", help="a folder, module, class or case of tests/")

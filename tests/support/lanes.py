@@ -1,5 +1,5 @@
 """Runs cases side by side. Those of a subject are a lane: one after another, in a process of its own. So many lanes run
-at a time as there are processors, and what becomes of each is told in the order in which they stand."""
+at a time as are asked for, and what becomes of each is told in the order in which they stand."""
 import contextlib
 import json
 import os
@@ -16,7 +16,7 @@ from tests.support.tally import Tally
 # Subjects of which each class is a lane, and those that are in the lane of another, which builds the same files.
 APART, TOGETHER = {"edits"}, {"packages": "page"}
 # Lanes that take longest, which begin first.
-LONGEST = ("page", "edits.dm_words", "edits.dm_symbol")
+LONGEST = ("page", "sampler", "edits.dm_words", "edits.dm_symbol", "scale", "library", "edits.ecc200_calls")
 
 
 def cases_of(suite):
