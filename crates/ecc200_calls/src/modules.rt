@@ -212,7 +212,6 @@ fn unpack_on(all: &mut [u8], start: usize, width: usize, cells: u128)
 
 /// Unpacks sixteen modules, of which the first is the lowest bit. Each of their two bytes is put into eight lanes by
 /// one shuffle.
-#[tactic(auto, using(dm_layout::proofs::symbols::Exported::sixteen_shown))]
 #[inline]
 fn unpack_together(cells: u16) -> u8x16
     ensures { result ≡ unpacked_cells TOGETHER cells }
