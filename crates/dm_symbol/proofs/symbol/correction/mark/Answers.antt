@@ -28,4 +28,4 @@ returns-in-Restarted-clause-marks c b =
     let marks = c.turn_checks.new.words in
     subst (λ x. marked_in d.size (Some marks) b ≡ erased_by x d.size (Some d) b) (sym c.in-Restarted.is)
     (erased_by_turned d.size d held marks b (c.requires.dealing c.in-Restarted.is) refl c.lift_to.ensures.holds
-    c.turn_checks.ensures)
+    (rw c.turn_checks.ensures))

@@ -40,8 +40,8 @@ returns-in-Ok-clause-restored c e =
     is_restarted c.args.symbol.now (option_map (λ d. d.now) c.args.doubtful) c.lift_to.new.words
     c.lift_to.ensures.holds (two (goal.at.returns-in-Ok-clause-restored c).After-lift_to) c.turn_checks.new.words
     c.restore_blocks.new.words c.turn_checks-in-Ok.new.words c.restore_blocks.new.blocks.items
-    c.turn_checks.ensures (rw same at c.in-Ok.ensures.words) (rw same at c.in-Ok.ensures.near)
-    (rw same at c.in-Ok.ensures.readings) c.turn_checks-in-Ok.ensures
+    (rw c.turn_checks.ensures) (rw same at c.in-Ok.ensures.words) (rw same at c.in-Ok.ensures.near)
+    (rw same at c.in-Ok.ensures.readings) (rw c.turn_checks-in-Ok.ensures)
 
 pub returns-in-Err-clause-lost : goal.returns-in-Err-clause-lost
 returns-in-Err-clause-lost c e two_ways held codewords r =
