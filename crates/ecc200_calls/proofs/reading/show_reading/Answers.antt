@@ -24,4 +24,4 @@ returns c =
       marks,
       items,
       c.as_slice-blocks.ensures.value,
-    ) refl
+    ) (search refl depth 1)
