@@ -8,8 +8,7 @@ says so. The crates below are taken as proved last.
 
 must-fail/goals.md names the goal whose answer refuses an edit. This answer, or the tactic by which the right body's is
 found, stands in a module below the file of answers. From that file the toolchain takes what goals to make, but it
-imports what isn't there: so no other goal is tried, and no proof is put together. What only a whole check proves, a
-goal over iterators, is left to that.
+imports what isn't there: so no other goal is tried, and no proof is put together.
 
 Nothing else is proved in the copy, since tests/proofs does that: each other function is an endless loop there, and a
 hole stands for its proof and for that of each lemma. The check goes on past it, so that a lemma is taken by what it
@@ -45,7 +44,7 @@ IS_GENERIC = r"(?:\bfn \w+|\bimpl)<(?!'\w+(?:, '\w+)*>)"
 PARTED = re.compile(r"\n\n(?=\S)")
 # The answer to a goal that the right body needs none for, and the tactics by which the toolchain finds it there.
 TACTICS = {"": "search rules fits 100", " by search": "search rules depth 2",
-           " by steps": "search (rules, common_steps) fits 500", " by check": None}
+           " by steps": "search (rules, common_steps) fits 500"}
 SEARCHED = """\
 use Rattle.std.proofs.Common.{{rules}}
 use Rattle.std.proofs.lemmas.Grind.{{common_steps}}
@@ -60,7 +59,7 @@ LACKING = "not proved as they stand: {}; run `rt lib` in each, or `make build`, 
 # A function of a file: its path below the crate, the lines where its comment and itself begin, and the line after.
 Function = collections.namedtuple("Function", "path file above start end is_of_trait is_generic")
 # An edit of a function: its name, the lines that its body changes, by their numbers, the goal whose answer refuses it,
-# the tactic where the right body needs no answer (none if the whole check is that), and the edit that the body is of.
+# the tactic where the right body needs no answer, and the edit that the body is of.
 Edit = collections.namedtuple("Edit", "name function changes goal tactic body")
 
 
@@ -171,9 +170,7 @@ def write_copy(crate, bodies, room):
     for to, (edit, *_) in sorted(bodies.items(), key=lambda it: -it[1][0].function.start):
         function, path = edit.function, os.path.join(room, edit.function.file)
         lines = places.text_of(path).split("\n")
-        above = lines[function.above : function.start]
-        if edit.tactic:
-            above = [it for it in above if "#[tactic(" not in it] + ["#[tactic(none)]"]
+        above = [it for it in lines[function.above : function.start] if "#[tactic(" not in it] + ["#[tactic(none)]"]
         own = [edit.changes.get(at, lines[at]) for at in range(function.start, function.end)]
         if function.is_of_trait:
             lines[function.above : function.end] = [*above, *own]
@@ -306,8 +303,7 @@ def check(crate, bodies, log):
         write_copy(crate, bodies, room)
         leave_proofs_out(crate, bodies, write_stubs(bodies, room), room)
         for path, edits in bodies.items():
-            if edits[0].tactic:
-                write_answers(crate, path, edits, room)
+            write_answers(crate, path, edits, room)
         with subprocess.Popen(words, cwd=room, **how) as run:
             last = []
             for line in run.stdout:
@@ -351,7 +347,7 @@ def tried(crate, edits):
             for path, own in bodies.items():
                 refused.pop(f"{path}::Answers", None)
                 for edit in own:
-                    said = refused.pop(f"{path}::Answers::{edit.name}", []) if edit.tactic else [told.get(path)]
+                    said = refused.pop(f"{path}::Answers::{edit.name}", [])
                     found[edit.name] = said if path in told else None
             others += [f"{path}: {it}" for path, all_of in refused.items() for it in all_of]
             edits = [it for it in edits if it not in bodies[judged(it)]]

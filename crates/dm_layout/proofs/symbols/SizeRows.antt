@@ -52,7 +52,7 @@ module _ (rows columns : ℕ) where
   size_of_sides = is_size (λ row. has_sides rows columns (row_entry row))
 
 -- The test of a row by the size that is wanted.
-abbrev is_enough : SizeChoice → ℕ → List ℕ → Bool
+abbrev pub is_enough : SizeChoice → ℕ → List ℕ → Bool
 is_enough choice count row =
     nat_le count (get_or row 6 0)
     && takes_sides choice (get_or row 0 0) (get_or row 1 0) (nat_eq (get_or row 9 0) 1)
