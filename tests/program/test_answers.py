@@ -3,7 +3,7 @@ The program that `make build` or tests/proofs left is run, and nothing is proved
 import itertools
 
 from tests.program.samples import GRID_123456, GRID_A, NO_BOTTOM_ROW, ONE_WRONG, TABLE, TWO, USAGE, ran
-from tests.support import needs
+from tests.support import commands, needs, places
 from tests.support.case import Case
 
 # Rows of these tables: name, words after the program's, standard input, status, standard output.
@@ -17,22 +17,21 @@ READ = [
 ]
 BORDERS = [
     *((f"a wrong bottom row by {words}", words, NO_BOTTOM_ROW, 1, b"\\no 5 border 10\n")
-      for words in ("read --border 2", "read", "check")),
-    ("a wrong bottom row that is accepted", "read --border 10", NO_BOTTOM_ROW, 0, b"123456\n"),
-    ("a check that refuses it", "check --border 2", NO_BOTTOM_ROW, 1, b"\\no 5 border 10\n"),
-    ("a normal grid of none", "normal --border 2", NO_BOTTOM_ROW, 1, b"\\no 5 border 10\n\n"),
-    ("a check", "check --border=10", NO_BOTTOM_ROW, 0, b"ok 10 border 10 corrected 0\n"),
+      for words in ("read", "read --border 2", "check", "check --border 2")),
+    *((f"the same row by {words}", words, NO_BOTTOM_ROW, 0, b"123456\n") for words in (
+        "read --border 10", "read --border 256", "read --border 65535", "read --border=0000000000065535")),
+    *((f"the same row by {words}", words, NO_BOTTOM_ROW, 0, b"ok 10 border 10 corrected 0\n")
+      for words in ("check --border 10", "check --border=10")),
+    ("one module more than the limit", "check --border 10", b"0" + NO_BOTTOM_ROW[1:], 1, b"\\no 5 border 11\n"),
     ("a check by the usual limit", "check", ONE_WRONG, 0, b"ok 10 border 1 corrected 0\n"),
     ("the largest limit", "check --border 65535", TWO, 0, b"ok 10 border 0 corrected 0\n" * 2),
     ("one wrong module by the usual limit", "read", ONE_WRONG, 0, b"123456\n"),
-    ("one wrong module and the limit 0", "read --border 0", ONE_WRONG, 1, b"\\no 5 border 1\n"),
-    ("ten wrong modules and the limit 256", "read --border 256", NO_BOTTOM_ROW, 0, b"123456\n"),
-    ("ten wrong modules and the largest limit", "read --border 65535", NO_BOTTOM_ROW, 0, b"123456\n"),
     ("a limit and the end of options", "read --border 1 --", ONE_WRONG, 0, b"123456\n"),
 ]
 NORMAL = [
     ("normal grids", "normal", TWO, 0, GRID_123456 + b"\n" + GRID_A + b"\n"),
-    ("a normal grid of a wrong bottom row", "normal", NO_BOTTOM_ROW, 1, b"\\no 5 border 10\n\n"),
+    *((f"a wrong bottom row by {words}", words, NO_BOTTOM_ROW, 1, b"\\no 5 border 10\n\n")
+      for words in ("normal", "normal --border 2")),
     ("a normal grid of one that is accepted", "normal --border 10", NO_BOTTOM_ROW, 0, GRID_123456 + b"\n"),
     ("normal grids, shortest in ASCII", "normal --border 1 --shorter", TWO, 0, GRID_123456 + b"\n" + GRID_A + b"\n"),
     ("a normal grid of one wrong module by the usual limit", "normal", ONE_WRONG, 0, GRID_123456 + b"\n"),
@@ -51,24 +50,23 @@ WRITTEN = [
 NO_GRIDS = [(b"10x", b"1 character"), (b"10\n1", b"3 shape"), (b"1010\n0101\n1010\n0101", b"4 side 4"),
             (b"0" * 105, b"2 large"), (b"0" * 53, b"3 shape"),
             *(((b"0" * side + b"\n") * side, b"4 side %d" % side) for side in (11, 53))]
-# Words for which the program has no use, as a text or, if one is empty or no text, one by one.
-WRONG_WORDS = {"the flag for read": "read --shorter", "the flag for check": "check --shorter",
-               "the flag for table": "table --shorter", "the flag before the subcommand": "--shorter write",
-               "the flag with a value": "write --shorter=true", "the flag twice": "write --shorter --shorter",
-               "no word": "", "an unknown word": "scribble", "an abbreviated word": "wri",
-               "a word too many": "write write", "a request for help": "--help", "a short request for help": "-h",
-               "a word for help": "help", "a subcommand's help": "read --help",
-               "a limit without its number": "read --border", "a limit that is too large": "read --border 65536",
-               "a limit that is no number": "read --border ten", "two limits": "read --border 1 --border 2",
-               "four words and one too many": "read --border 1 2", "four words and two too many": "read --border 1 2 3",
-               "four words and many too many": "read --border 1" + " read" * 60,
-               "a limit for write": "write --border 1", "a limit for table": "table --border 1",
-               "a limit before the subcommand": "--border 1 read",
-               "four words and an empty one": ["read", "--border", "1", ""],
-               "five words": "normal --border 1 --shorter 1", "six words": "normal --border 1 --shorter 1 2",
-               "a word after the end of options": "normal --border 1 --shorter -- 1",
-               "the end of options before the subcommand": "-- read", "an empty word": ["read", ""],
-               "a word that isn't UTF-8": [b"\xff"], "a second word that isn't UTF-8": ["read", b"\xff"]}
+# Words for which the program has no use, as a text or, if one is empty, has a blank or is no text, one by one.
+WRONG_WORDS = [
+    "", "scribble", "raed", "Read", "wri", "help", "help read", "--help", "-h", "--version", "read --help", "write -h",
+    "write read", "write write", "write x", "read 10", "-- write", "-- read", "--border 1 read", "write --border 1",
+    "table --border 1", "read --border", "read --border=", "read --border 65536", "read --border 18446744073709551616",
+    "read --border -0", "read --border=-1", "read --border=-", "read --border=+", "read --border=-+1",
+    "read --border 0x10", "read --border ten", "read --border 1 --border 2", "read --bord 1", "read -b 1",
+    "read --border 1 2", "read --border 1 2 3", "read --border 1" + " read" * 60, "read --shorter", "check --shorter",
+    "check --border 2 --shorter", "table --shorter", "--shorter write", "write --shorter --shorter",
+    "write --shorter=true", "normal --shorter 2", "write --short", "normal -s", "normal --border 1 --shorter 1",
+    "normal --border 1 --shorter 1 2", "normal --border 1 --shorter -- 1", [""], ["read", ""],
+    ["read", "--border", ""], ["read", "--border", "1 "], ["read", "--border", "1", ""], [b"\xff"], ["read", b"\xff"]]
+
+
+def wrong(grid, count):
+    """Gives the grid with so many modules of its top row turned over."""
+    return bytes(it ^ 1 for it in grid[:count]) + grid[count:]
 
 
 @needs.program
@@ -94,8 +92,11 @@ class Answers(Case):
         self.rows([("the table", ran(["table"], b"1\n"), (0, TABLE, b""))])
 
     def test_wrong_words_are_answered_by_the_usage(self):
-        for name, words in WRONG_WORDS.items():
-            self.row(name, ran(words.split() if isinstance(words, str) else words), (2, b"", USAGE))
+        for words in WRONG_WORDS:
+            self.row(str(words), ran(words.split() if isinstance(words, str) else words), (2, b"", USAGE))
+        for name in ("dm_tool", ""):
+            self.row(f"no word but the name {name!r}", commands.run([name], executable=places.PROGRAM), (2, b"", USAGE))
+            self.row(f"the name {name!r}", commands.run([name, "table"], executable=places.PROGRAM), (0, TABLE, b""))
 
 
 @needs.program
@@ -110,8 +111,19 @@ class DamagedBorders(Case):
                  (22, (1, b"\\no 5 border 3\n", b"")))
         self.row("the same and the limit 3", ran(["read", "--border", "3"], three_wrong), (0, b"7" * 60 + b"\n", b""))
 
+    def test_limits_in_each_form(self):
+        for words, most in (("--border 0", 0), ("--border=-0", 0), ("--border +007", 7), ("--border=+007", 7)):
+            at_most, beyond = (ran(["read", *words.split()], wrong(GRID_123456, it)) for it in (most, most + 1))
+            self.row(words, at_most, (0, b"123456\n", b""))
+            self.row(f"{words}, one more", beyond, (1, b"\\no 5 border %d\n" % (most + 1), b""))
+
     def test_a_grid_is_normalised_with_a_limit_and_the_flag(self):
-        _, grid, _ = ran(["write"], b"\\x80\\x80\\x80\n")
-        answer = ran(["normal", "--border", "1", "--shorter"], b"0" + grid[1:])
-        self.row("the sides", (grid.index(b"\n"), answer.status, answer.output.index(b"\n")), (14, 0, 12))
-        self.row("what it says then", ran(["read"], answer.output), (0, b"\\x80\\x80\\x80\n", b""))
+        (_, grid, _), (_, shorter, _) = (ran(words.split(), b"\\x80" * 3) for words in ("write --", "write --shorter"))
+        self.row("the sides", (grid.index(b"\n"), shorter.index(b"\n")), (14, 12))
+        for words, most in (("", 3), ("--border 1", 1), ("--border 2", 2), ("--border=2", 2)):
+            words = ["normal", *words.split()]
+            for each in ([*words, "--shorter"], [words[0], "--shorter", *words[1:]]):
+                self.row(f"{each}", ran(each, wrong(grid, most)), (0, shorter, b""))
+                self.row(f"{each}, one more", ran(each, wrong(grid, most + 1)),
+                         (1, b"\\no 5 border %d\n\n" % (most + 1), b""))
+        self.row("what it says then", ran(["read"], shorter), (0, b"\\x80" * 3 + b"\n", b""))

@@ -1,6 +1,6 @@
 //! Laws of the definitions in `specs/`. Each function has an empty body: its contract is the law.
 
-ghost use Rattle.std.specs.Prelude.{◌≡◌, ℕ, List, []};
+ghost use Rattle.std.specs.Prelude.{◌≡◌, ◌≢◌, ℕ, List, []};
 ghost use Rattle.clap.specs.Faults.{fault_of};
 ghost use Rattle.clap.specs.Simple.{subcommand_of};
 ghost use Rattle.dm_text.specs.declared.Tally.{Tally};
@@ -13,6 +13,11 @@ ghost use Rattle.dm_command.specs.Statuses.{EndsWith, largest};
 pub fn faultless_words_name_one_task()
     ensures { (words : List (List ℕ)) → fault_of dm_app words ≡ []
         → NamesOneTask (subcommand_of dm_app words) }
+{}
+
+/// No words at all name no task: clap finds a fault in them.
+pub fn no_words_name_no_task()
+    ensures { fault_of dm_app [] ≢ [] }
 {}
 
 /// The program's status after the whole is the largest of those after its parts: 1 where something was refused in
