@@ -1,8 +1,9 @@
 //! Reading: the message that a grid says.
 
-ghost use Rattle.std.specs.Prelude.{◌≡◌, ◌≤◌, ℕ, length, map};
+ghost use Rattle.std.specs.Prelude.{◌≡◌, ◌≤◌, ◌*◌, ℕ, length, map, OnOk, IfErr};
 ghost use Rattle.dm_layout.specs.Sizes.{codeword_count};
 ghost use Rattle.dm_words.specs.Outcomes.{outcome};
+ghost use Rattle.dm_words.specs.Spells.{Refused, Spells};
 ghost use Rattle.dm_symbol.specs.Reading.{IsRead};
 
 use crate::contents::ContentReadFault;
@@ -10,7 +11,7 @@ use crate::symbol::dealing::Dealing;
 use crate::symbol::reading::{BlockReading, FEW_CODEWORDS, restore};
 use arrayvec::ArrayVec;
 use dm_layout::{Grid, MOST_GRID_BLOCKS, MOST_GRID_CODEWORDS};
-use dm_words::{Extent, Message, WordFault, message_to};
+use dm_words::{Extent, MESSAGE_ROOM, MOST_DATA, Message, WordFault, message_to};
 
 /// What a grid says, and how much of it was wrong. The default is the reading of an empty message, with nothing
 /// corrected, into which [`read_to`] can read.
@@ -104,11 +105,31 @@ fn read_in(
         Err(ContentReadFault::Words(_)) => unreachable!(),
     }
     let list = &room[..usize::from(size.data_count())];
-    match message_to(list, &mut reading.message) {
-        Ok(()) => {}
-        Err(fault) => return Err(ReadFault::Words(fault)),
+    match message_said(list, &blocks, reading) {
+        Ok(()) => Ok(()),
+        Err(fault) => Err(ReadFault::Words(fault)),
     }
-    reading.corrected = corrected_in(&blocks);
+}
+
+/// Leaves the message that data codewords spell, and in how many codewords each of these blocks was wrong.
+fn message_said(
+    words: &[u8],
+    blocks: &[BlockReading],
+    reading: &mut Reading,
+) -> Result<(), WordFault>
+    requires short { length words.now ≤ MOST_DATA }
+    requires room { 2 * length words.now ≤ MESSAGE_ROOM }
+    requires few { length blocks.now ≤ MOST_GRID_BLOCKS }
+    ensures spelled { OnOk result (Spells Extent.Usual words.now reading.new.message) }
+    ensures corrected { OnOk result (reading.new.corrected.items ≡ map (λ block. block.corrected) blocks.now) }
+    ensures refused { IfErr result (λ fault. Refused words.now fault) }
+    ensures faults { reading.new.border_faults ≡ reading.old.border_faults }
+{
+    match message_to(words, &mut reading.message) {
+        Ok(()) => {}
+        Err(fault) => return Err(fault),
+    }
+    reading.corrected = corrected_in(blocks);
     Ok(())
 }
 

@@ -1,16 +1,38 @@
 //! Normalising a symbol of any size: the normal symbol of the content that it says.
 
-ghost use Rattle.std.specs.Prelude.{◌≡◌, ◌≤◌, ◌*◌, IfSome, option_map};
+ghost use Rattle.std.specs.Prelude.{◌≡◌, ◌≤◌, ◌*◌, OnErr, IfSome, option_map};
 ghost use Rattle.dm_words.specs.Messages.{most_spelled};
+ghost use Rattle.dm_words.specs.Outcomes.{outcome};
 ghost use Rattle.dm_symbol.specs.ContentReading.{content_reading_in};
 ghost use Rattle.dm_symbol.specs.ContentNormal.{IsContentNormalisedTo};
+ghost use Rattle.dm_symbol.specs.NormalContent.{IsContentWritten};
 
 use crate::contents::reading::read_content_to;
 use crate::contents::writing::{Form, WriteOptions, write_content_to};
 use crate::contents::{ContentNormalFault, ContentReadingIn};
 use crate::symbol::reading::ReadOptions;
 use dm_layout::symbols::{SizeChoice, Symbol, SymbolIn, SymbolWords};
-use dm_words::{LARGEST_MARKS, LARGEST_ROOM, Profile, TooLong};
+use dm_words::{ContentIn, LARGEST_MARKS, LARGEST_ROOM, Profile, TooLong};
+
+/// Writes a content in the smallest square, under a profile.
+fn write_normal_to<const ITEMS: usize, const MARKS: usize>(
+    content: &ContentIn<ITEMS, MARKS>,
+    profile: Profile,
+    words: &mut SymbolWords,
+    symbol: &mut Symbol,
+) -> Result<(), TooLong>
+    requires room { ITEMS ≤ LARGEST_ROOM }
+    requires few_marks { MARKS ≤ LARGEST_MARKS }
+    ensures written { IsContentWritten SizeChoice.Square profile content.now (outcome result symbol.new) }
+    ensures same { OnErr result (symbol.new ≡ symbol.old) }
+{
+    let square = WriteOptions {
+        form: Form::Profiled(profile),
+        size: SizeChoice::Square,
+    };
+    let (items, marks) = (content.items(), content.marks());
+    write_content_to(content.head(), items, marks, square, words, symbol)
+}
 
 /// Gives the normal symbol, under a profile, of the content that a symbol says, whatever its shape, size, encodation
 /// and damage: the one in which the content is written in the smallest square. Two symbols that are read, each in its
@@ -47,13 +69,7 @@ pub fn normal_content_to<const ROWS: usize, const ITEMS: usize, const MARKS: usi
         Ok(()) => {}
         Err(fault) => return Err(ContentNormalFault::Read(fault)),
     }
-    let square = WriteOptions {
-        form: Form::Profiled(profile),
-        size: SizeChoice::Square,
-    };
-    let content = &reading.content;
-    let (items, marks) = (content.items(), content.marks());
-    match write_content_to(content.head(), items, marks, square, words, normal) {
+    match write_normal_to(&reading.content, profile, words, normal) {
         Ok(()) => Ok(()),
         Err(TooLong) => Err(ContentNormalFault::TooLong),
     }

@@ -1,16 +1,39 @@
 //! Reading a symbol of any size as a content.
 
-ghost use Rattle.std.specs.Prelude.{◌≡◌, ◌≤◌, ◌*◌, ℕ, List, OnOk, IfSome, option_map};
+ghost use Rattle.std.specs.Prelude.{◌≡◌, ◌≤◌, ◌*◌, ℕ, List, length, OnOk, IfOk, IfErr, IfSome, option_map};
 ghost use Rattle.dm_layout.specs.symbols.Sizes.{codeword_count};
+ghost use Rattle.dm_words.specs.Contents.{HasMarkRoom, IsRefused, Says};
 ghost use Rattle.dm_words.specs.Messages.{most_spelled};
 ghost use Rattle.dm_words.specs.Outcomes.{outcome};
+ghost use Rattle.dm_words.specs.Symbology.{IsIdentifier};
 ghost use Rattle.dm_symbol.specs.SymbolReading.{AreRestored};
 ghost use Rattle.dm_symbol.specs.ContentReading.{IsContentRead, content_reading_in};
 
+use crate::Extent;
 use crate::contents::{ContentReadFault, ContentReadingIn};
 use crate::symbol::reading::{ReadOptions, restore_symbol_to};
 use dm_layout::symbols::{SymbolIn, SymbolWordsIn};
-use dm_words::{LARGEST_ROOM, content_to_as, symbology_number};
+use dm_words::{ContentFault, ContentIn, LARGEST_ROOM, MOST_DATA, content_to_as, symbology_number};
+
+/// Reads data codewords as the content that they say in the extent, and gives the number of their symbology identifier.
+fn content_said<const ITEMS: usize, const MARKS: usize>(
+    extent: Extent,
+    words: &[u8],
+    content: &mut ContentIn<ITEMS, MARKS>,
+) -> Result<u8, ContentFault>
+    requires short { length words.now ≤ MOST_DATA }
+    requires most { ITEMS ≤ LARGEST_ROOM }
+    requires room { most_spelled extent (length words.now) ≤ ITEMS }
+    requires marks { HasMarkRoom MARKS words.now }
+    ensures said { IfOk result (λ number. Says extent words.now content.new
+        × IsIdentifier words.now content.new number) }
+    ensures refused { IfErr result (λ fault. IsRefused extent words.now fault) }
+{
+    match content_to_as(extent, words, content) {
+        Ok(()) => Ok(symbology_number(words, content)),
+        Err(fault) => Err(fault),
+    }
+}
 
 /// Reads a symbol of any size as a content, which is a head or none, items and marks (ISO/IEC 16022, decode algorithm,
 /// ECI encodation, structured append, reader programming): refuses it if more modules of its borders than
@@ -72,10 +95,9 @@ pub fn read_content_to<
         Ok(()) => {}
         Err(fault) => return Err(fault),
     }
-    let list = words.data_part();
-    match content_to_as(how.extent, list, &mut reading.content) {
-        Ok(()) => {
-            reading.identifier = symbology_number(list, &reading.content);
+    match content_said(how.extent, words.data_part(), &mut reading.content) {
+        Ok(number) => {
+            reading.identifier = number;
             Ok(())
         }
         Err(fault) => Err(ContentReadFault::Words(fault)),

@@ -79,27 +79,29 @@ pub fn inspect_symbol_to<const ROWS: usize, const WORDS: usize>(
     ensures { IsSymbolInspection symbol.now (option_map (λ d. d.now) doubtful.entry)
         inspection.new }
 {
-    let size = symbol.size();
     let symbol = symbol.borrowed();
+    match doubtful {
+        None => inspect(&symbol, None, inspection),
+        Some(doubtful) => inspect(&symbol, Some(&doubtful.borrowed()), inspection),
+    }
+}
+
+/// Does so with borrowed rows.
+fn inspect<const WORDS: usize>(
+    symbol: &BorrowedSymbol,
+    doubtful: Option<&BorrowedSymbol>,
+    inspection: &mut SymbolInspectionIn<WORDS>,
+)
+    requires doubtful { IfSome doubtful (λ doubtful. doubtful.now.size ≡ symbol.now.size) }
+    requires codewords { codeword_count symbol.now.size ≤ WORDS }
+    ensures { IsSymbolInspection symbol.now (option_map (λ d. d.now) doubtful.entry)
+        inspection.new }
+{
+    let size = symbol.size();
     let (held, mended) = (&mut inspection.held, &mut inspection.mended);
     let (held, mended) = (held.resize(size), mended.resize(size));
-    match doubtful {
-        None => {
-            inspection.border_faults = border_faults(&symbol, None);
-            inspection.dealing = mend(&symbol, None, held, mended, &mut inspection.blocks);
-        }
-        Some(doubtful) => {
-            let doubtful = doubtful.borrowed();
-            inspection.border_faults = border_faults(&symbol, Some(&doubtful));
-            inspection.dealing = mend(
-                &symbol,
-                Some(&doubtful),
-                held,
-                mended,
-                &mut inspection.blocks,
-            );
-        }
-    }
+    inspection.border_faults = border_faults(symbol, doubtful);
+    inspection.dealing = mend(symbol, doubtful, held, mended, &mut inspection.blocks);
 }
 
 /// Leaves the codewords that a symbol holds at the start of `held`, and the same restored as far as they can be at the

@@ -1,5 +1,5 @@
-use Rattle.dm_symbol.proofs.Names.{◌≡◌, ◌≤◌, ◌*◌, ◌∙◌, ℕ, List, length, map, take, None, Ok, Err, ap, subst, sym, refl}
-use Rattle.dm_symbol.proofs.Names.{arith, rules, data_of, first_words, row_facts, symbol_modules, symbol_size, SizeRow}
+use Rattle.dm_symbol.proofs.Names.{◌≡◌, ◌≤◌, ◌*◌, ◌∙◌, ℕ, List, length, map, take, None, Ok, Err, ap, subst, sym}
+use Rattle.dm_symbol.proofs.Names.{arith, data_of, first_words, row_facts, symbol_modules, symbol_size, SizeRow}
 use Rattle.dm_symbol.proofs.Names.{codeword_count, Usual, Spells, Refused, BlockReading, Border, Block, IsRead}
 use Rattle.dm_symbol.proofs.Names.{reading_of, ContentReadResult}
 use Rattle.std.proofs.lemmas.List.{take-take}
@@ -40,12 +40,12 @@ returns-in-Err-Block-clause-read c =
     (subst (λ m. ContentReadResult Usual m None c.args.border_limit (Err (Block c.in-Err-Block.index)))
     (same (goal.at.returns-in-Err-Block-clause-read c).After-restore) lost))
 
-pub message_to-requires : goal.message_to-requires
-message_to-requires c =
+pub message_said-requires : goal.message_said-requires
+message_said-requires c =
     let s = c.args.grid.now.size in
     let v = first_words (symbol_size s) c.restore.new.room in
     let list = take c.from.result c.restore.new.room in
-    let restored = rw (same (goal.at.message_to-requires c).After-restore) at c.in-Ok.ensures.restored in
+    let restored = rw (same (goal.at.message_said-requires c).After-restore) at c.in-Ok.ensures.restored in
     let words = restored.restored.by.of_size in
     let is : list ≡ data_of v = data_is s c.restore.new.room c.from.result (omega (
       arith,
@@ -55,23 +55,21 @@ message_to-requires c =
     )) in
     let items : 2 * length list ≤ 1639 =
     omega (arith, data_as_many v list words is, room_for_grid Usual s c.size-size.ensures.grid.row) in
-    (search rules, (data_fits v list words is, items))
-
-pub corrected_in-reading-requires : goal.corrected_in-reading-requires
-corrected_in-reading-requires c =
-    let kept = c.restore.new in
-    let grid = c.args.grid.now in
-    let few = (row_facts grid.size c.size-size.ensures.grid.row).few_blocks in
-    let restored = rw (same (goal.at.corrected_in-reading-requires c).After-restore) at c.in-Ok.ensures.restored in
-    let count = restored_count Usual (symbol_modules grid) None c.args.border_limit
-    (first_words (symbol_size grid.size) kept.room) kept.dealing kept.blocks.items kept.faults restored in
-    omega (arith, ap length c.deref.ensures.0, count, few)
+    let count = restored_count Usual (symbol_modules c.args.grid.now) None c.args.border_limit v
+    c.restore.new.dealing c.restore.new.blocks.items c.restore.new.faults restored in
+    record {
+      short = data_fits v list words is;
+      room = items;
+      few =
+          omega (arith, ap length c.deref.ensures.0, count, (row_facts s c.size-size.ensures.grid.row).few_blocks);
+    }
 
 pub returns-in-Err-clause-read : goal.returns-in-Err-clause-read
 returns-in-Err-clause-read c =
     let kept = c.restore.new in
     let grid = c.args.grid.now in
-    let restored = rw (same (goal.at.returns-in-Err-clause-read c).After-restore) at c.in-Ok.ensures.restored in
+    let restored = rw (same (goal.at.returns-in-Err-clause-read c).After-restore)
+    at c.in-Ok.ensures.restored in
     let is = data_is grid.size kept.room c.from.result (omega (
       arith,
       c.from.ensures,
@@ -80,25 +78,28 @@ returns-in-Err-clause-read c =
     )) in
     fault_is_read grid c.args.border_limit c.size-size.ensures.grid (first_words (symbol_size grid.size) kept.room)
     kept.dealing kept.blocks.items kept.faults restored c.in-Err.fault
-    (subst (λ words. Refused words c.in-Err.fault) is ((c.in-Err.ensures.read.fault c.in-Err.fault).0 refl))
+    (subst (λ words. Refused words c.in-Err.fault) is c.in-Err.ensures.refused)
 
-pub returns-clause-read : goal.returns-clause-read
-returns-clause-read c =
+pub returns-in-Ok-message_said-clause-read : goal.returns-in-Ok-message_said-clause-read
+returns-in-Ok-message_said-clause-read c =
     let kept = c.restore.new in
     let grid = c.args.grid.now in
-    let message = c.message_to.new.message in
-    let restored = rw (same (goal.at.returns-clause-read c).After-restore) at c.in-Ok.ensures.restored in
+    let reading = c.message_said.new.reading in
+    let said = c.in-Ok-message_said.ensures in
+    let restored = rw (same (goal.at.returns-in-Ok-message_said-clause-read c).After-restore)
+    at c.in-Ok.ensures.restored in
     let is = data_is grid.size kept.room c.from.result (omega (
       arith,
       c.from.ensures,
       c.data_count.ensures.value,
       ap (λ (r : SizeRow). r.data_count) c.size-size.ensures.value,
     )) in
-    let spelled = subst (λ words. Spells Usual words message) is
-    ((c.in-Ok-message_to.ensures.read.message message).0 refl) in
-    let told : c.corrected_in-reading.result.items ≡ map (λ (b : BlockReading). b.corrected) kept.blocks.items =
-    c.corrected_in-reading.ensures ∙ ap (map (λ (b : BlockReading). b.corrected)) c.deref.ensures.0 in
-    subst (λ xs. IsRead grid c.args.border_limit (Ok (reading_of message xs kept.faults))) (sym told)
+    let spelled = subst (λ words. Spells Usual words reading.message) is said.spelled in
+    let told : reading.corrected.items ≡ map (λ (b : BlockReading). b.corrected) kept.blocks.items =
+    said.corrected ∙ ap (map (λ (b : BlockReading). b.corrected)) c.deref.ensures.0 in
+    subst (λ xs. IsRead grid c.args.border_limit (Ok (reading_of reading.message xs reading.border_faults))) (sym told)
+    (subst (λ n. IsRead grid c.args.border_limit (Ok (reading_of reading.message
+    (map (λ (b : BlockReading). b.corrected) kept.blocks.items) n))) (sym c.message_said.ensures.faults)
     (message_is_read grid c.args.border_limit c.size-size.ensures.grid
-    (first_words (symbol_size grid.size) kept.room) kept.dealing kept.blocks.items kept.faults restored message
-    spelled)
+    (first_words (symbol_size grid.size) kept.room) kept.dealing kept.blocks.items kept.faults restored reading.message
+    spelled))

@@ -1,6 +1,4 @@
-use Rattle.dm_symbol.proofs.Names.{Err, Ok, refl, rules, subst, option_map, false≢true, ContentView, Square, size_facts}
-use Rattle.dm_symbol.proofs.Names.{IsContentWritten, IsNormalOrFault}
-use Rattle.dm_symbol.proofs.ChosenWords.{content_is}
+use Rattle.dm_symbol.proofs.Names.{refl, rules, option_map, false≢true, size_facts, IsNormalOrFault}
 use Rattle.dm_symbol.proofs.NormalContents.{is_content_normalised}
 use Rattle.dm_symbol.proofs.contents.normalising.normal_content_to.Goals as goal
 
@@ -17,35 +15,30 @@ returns-in-Err g c =
       same = refl;
     }
 
-pub returns-in-Ok-write_content_to : goal.returns-in-Ok-write_content_to
-returns-in-Ok-write_content_to g c =
+pub returns-in-Ok-write_normal_to : goal.returns-in-Ok-write_normal_to
+returns-in-Ok-write_normal_to g c =
     let how = c.args.how in
     let doubt = option_map (λ d. d.now) how.doubtful in
     let content = c.read_content_to.new.reading.content in
-    let same = content_is content c.head.result c.items-items.result.now c.marks-marks.result.now c.head.ensures.value
-    c.items-items.ensures.value c.marks-marks.ensures.value in
     record {
       normal =
           is_content_normalised how.extent c.args.profile c.args.symbol.now doubt how.border_limit _
-          (IsNormalOrFault.normal c.write_content_to.new.symbol
+          (IsNormalOrFault.normal c.write_normal_to.new.symbol
           (record {
             content = content;
             read = (c.in-Ok.ensures.read.content content).0 refl;
-            normal_symbol = (subst (λ (l : ContentView). IsContentWritten Square c.args.profile l
-                (Ok c.write_content_to.new.symbol)) same c.in-Ok-write_content_to.ensures.written).written;
+            normal_symbol = c.in-Ok-write_normal_to.ensures.written.written;
           }) refl);
       reading_is = c.in-Ok.ensures.read.result_is;
       reading_of_long = λ e. cc;
       same = tt;
     }
 
-pub returns-in-Err-write_content_to : goal.returns-in-Err-write_content_to
-returns-in-Err-write_content_to g c =
+pub returns-in-Err-write_normal_to : goal.returns-in-Err-write_normal_to
+returns-in-Err-write_normal_to g c =
     let how = c.args.how in
     let doubt = option_map (λ d. d.now) how.doubtful in
     let content = c.read_content_to.new.reading.content in
-    let same = content_is content c.head.result c.items-items.result.now c.marks-marks.result.now c.head.ensures.value
-    c.items-items.ensures.value c.marks-marks.ensures.value in
     record {
       normal =
           is_content_normalised how.extent c.args.profile c.args.symbol.now doubt how.border_limit _
@@ -53,13 +46,11 @@ returns-in-Err-write_content_to g c =
           (record {
             content = content;
             read = (c.in-Ok.ensures.read.content content).0 refl;
-            too_long = λ fits. false≢true ((subst
-                (λ (l : ContentView). IsContentWritten Square c.args.profile l (Err _))
-                same c.in-Err-write_content_to.ensures.written).fits.1 fits);
+            too_long = λ fits. false≢true (c.in-Err-write_normal_to.ensures.written.fits.1 fits);
           }) refl);
       reading_is = tt;
       reading_of_long = λ e. c.in-Ok.ensures.read.result_is;
-      same = c.in-Err-write_content_to.ensures.same;
+      same = c.in-Err-write_normal_to.ensures.same;
     }
 
 pub read_content_to-requires : goal.read_content_to-requires
