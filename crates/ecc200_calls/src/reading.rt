@@ -2,6 +2,8 @@
 
 ghost use Rattle.std.specs.Prelude.{◌≡◌, ◌≤◌, ◌/◌, length, map};
 ghost use Rattle.ecc200_calls.specs.Arrays.{over};
+ghost use Rattle.ecc200_calls.specs.Contents.{head_shown, mark_shown};
+ghost use Rattle.ecc200_calls.specs.Items.{number_of};
 ghost use Rattle.ecc200_calls.specs.Readings.{IsReadResult, IsReadingGiven, dealing_shown, no_reading, reading_shown};
 ghost use Rattle.ecc200_calls.specs.Scans.{SoughtResult, usual_limit};
 ghost use Rattle.ecc200_calls.specs.inner.Restored.{reading_said};
@@ -121,7 +123,6 @@ fn show_reading(out: &mut ReadingOut, said: &Said)
     ensures { out.new ≡ reading_shown said.now.size.rows said.now.size.columns (reading_said said.now)
         out.old }
 {
-    let (items, marks) = (said.items, said.marks);
     let restored = said.restored;
     let blocks = restored.blocks.as_slice();
     out.fault = Fault::none();
@@ -132,6 +133,23 @@ fn show_reading(out: &mut ReadingOut, said: &Said)
     put_counts(&mut out.corrected, &mut out.erased, &mut out.left, blocks);
     out.identifier = u16::from(said.identifier);
     out.dealing = dealing_number(restored.dealing);
+    show_content(out, said);
+}
+
+/// Shows the content that a symbol says.
+#[inline]
+fn show_content(out: &mut ReadingOut, said: &Said)
+    requires items { length said.now.items.now ≤ LARGEST_ROOM }
+    requires marks { length said.now.marks.now ≤ LARGEST_MARKS }
+    ensures { out.new ≡ record out.old {
+      head = head_shown said.now.head;
+      mark_count = length said.now.marks.now;
+      marks = over (map mark_shown said.now.marks.now) out.old.marks;
+      item_count = length said.now.items.now;
+      items = over (map number_of said.now.items.now) out.old.items;
+    } }
+{
+    let (items, marks) = (said.items, said.marks);
     out.head = head_shown(said.head);
     out.mark_count = marks.len() as u16;
     put_marks(&mut out.marks, marks);

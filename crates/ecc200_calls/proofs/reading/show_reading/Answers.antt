@@ -1,17 +1,11 @@
-use Rattle.ecc200_calls.proofs.Names.{◌≡◌, map, mark_shown, number_of, refl}
-use Rattle.ecc200_calls.specs.Arrays.{over}
-use Rattle.ecc200_calls.specs.Contents.{head_shown}
+use Rattle.ecc200_calls.proofs.Names.{◌≡◌, refl}
 use Rattle.ecc200_calls.proofs.reading.show_reading.Goals as goal
 
 pub returns : goal.returns
 returns c =
-    let said = c.args.said.now in
-    let before = c.args.out.now in
-    let identifier : c.from-out.result ≡ said.identifier = c.from-out.ensures in
-    let head : c.head_shown-out.result ≡ head_shown said.head = c.head_shown-out.ensures in
-    let marks : c.put_marks.new.all ≡ over (map mark_shown said.marks.now) before.marks = c.put_marks.ensures in
-    let items : c.put_items.new.all ≡ over (map number_of said.items.now) before.items = c.put_items.ensures in
+    let identifier : c.from-out.result ≡ c.args.said.now.identifier = c.from-out.ensures in
     rw (
+      c.show_content.ensures,
       c.none-out.ensures,
       c.rows-out.ensures.value,
       c.columns-out.ensures.value,
@@ -20,8 +14,5 @@ returns c =
       c.put_counts.ensures.left,
       identifier,
       c.dealing_number-out.ensures,
-      head,
-      marks,
-      items,
       c.as_slice-blocks.ensures.value,
     ) (search refl depth 1)
