@@ -13,10 +13,11 @@ from concurrent.futures import ThreadPoolExecutor
 from tests.support import places
 from tests.support.tally import Tally
 
-# Subjects of which each class is a lane, and those that are in the lane of another, which builds the same files.
-APART, TOGETHER = {"edits"}, {"packages": "page"}
-# Lanes that take longest, which begin first.
-LONGEST = ("page", "sampler", "edits.dm_words", "edits.dm_symbol", "scale", "library", "edits.ecc200_calls")
+# Subjects that are in the lane of another, which builds the same files.
+TOGETHER = {"packages": "page"}
+# Lanes that take longest, which begin first. (That of edits is as long as half of the others. Two provers side by side
+# would take a tenth more, since they contend for memory.)
+LONGEST = ("edits", "page", "sampler", "scale", "library")
 
 
 def cases_of(suite):
@@ -26,10 +27,8 @@ def cases_of(suite):
 
 def lane_of(case):
     """Gives the lane of a case, or None for what stands for a module that can't be loaded or is left out."""
-    top, subject, *_, kind, _ = case.id().split(".")
-    if top != "tests":
-        return None
-    return f"{subject}.{kind}" if subject in APART else TOGETHER.get(subject, subject)
+    top, subject, *_ = case.id().split(".")
+    return TOGETHER.get(subject, subject) if top == "tests" else None
 
 
 def lanes_of(suite):
