@@ -213,18 +213,18 @@ def copy_proof(crate, room, path, to):
 
 def write_answers(crate, path, edits, room):
     """Puts the answer to the goal of each of a body's edits into a module of its own, and leaves of the file of answers
-    what names these goals, as a file that can't be read to its end."""
+    what names these goals, as a file that can't be read to its end; but for a method of a trait, just these answers."""
     folder, module = folder_of(path, room), f"Rattle.{crate}.proofs.{path.replace('::', '.')}"
     file = f"{folder}/Answers.antt"
     text = places.text_of(file) if os.path.exists(file) else ""
     answers = {it.name: answer_alone(module, text, it) for it in edits}
     os.makedirs(f"{folder}/Answers", exist_ok=True)
-    for name, own in answers.items():
-        places.wrote(own, f"{folder}/Answers/{name}.antt")
-    parts = [f"mod {it}\nuse {module}.Answers.{it}" for it in answers]
+    parts = [*dict.fromkeys(it for own in answers.values() for it in PARTED.split(own))]
     # (what calls a method of a trait is checked if its file can be read)
-    parts += [f"use {module}.Nothing"] * (not edits[0].function.is_of_trait)
-    parts += dict.fromkeys(it for own in answers.values() for it in PARTED.split(own))
+    if not edits[0].function.is_of_trait:
+        for name, own in answers.items():
+            places.wrote(own, f"{folder}/Answers/{name}.antt")
+        parts += [f"mod {it}\nuse {module}.Answers.{it}" for it in answers] + [f"use {module}.Nothing"]
     places.wrote("\n\n".join(sorted(parts, key=lambda it: not it.startswith(("mod ", "use ")))), file)
 
 
@@ -345,9 +345,9 @@ def tried(crate, edits):
                 own += [edit] * (not own or own[0].body == edit.body)
             told, refused = check(crate, bodies, log)
             for path, own in bodies.items():
-                refused.pop(f"{path}::Answers", None)
+                of_all = refused.pop(f"{path}::Answers", [])
                 for edit in own:
-                    said = refused.pop(f"{path}::Answers::{edit.name}", [])
+                    said = refused.pop(f"{path}::Answers::{edit.name}", of_all if edit.function.is_of_trait else [])
                     found[edit.name] = said if path in told else None
             others += [f"{path}: {it}" for path, all_of in refused.items() for it in all_of]
             edits = [it for it in edits if it not in bodies[judged(it)]]

@@ -1,4 +1,4 @@
-use Rattle.dm_layout.proofs.Names.{◌≡◌, ℕ, arith, rules, mapped_cell, mapping_rows, mapping_columns}
+use Rattle.dm_layout.proofs.Names.{◌≡◌, ℕ, ◌+◌, ◌%◌, arith, rules, mapped_cell, mapping_rows, mapping_columns}
 use Rattle.dm_layout.proofs.symbols.LongSizes.{HasMatrix, has_matrix}
 use Rattle.dm_layout.proofs.symbols.WidenedRows.{is_widened}
 use Rattle.dm_layout.proofs.symbols.widened.widen.Goals as goal
@@ -40,7 +40,8 @@ returns-clause-widened g c =
     let em : m ≡ mapping_rows c.args.symbol.now.size = cc (c.mapping_rows-height.ensures.value) in
     let ek : k ≡ mapping_columns c.args.symbol.now.size = cc (c.mapping_columns-columns.ensures.value) in
     let moved = rw (← em, ← ek) at c.move_rows.ensures.moved in
-    let wrapped = rw c.wrap_shift-down.ensures at c.wrap_columns.ensures.wrapped in
+    let down : c.wrap_shift-down.result ≡ (k + 4) % 8 = c.wrap_shift-down.ensures in
+    let wrapped = rw down at c.wrap_columns.ensures.wrapped in
     let above = rw c.wrap_shift-right.ensures at c.wrap_rows.ensures.above in
     rw (← em, ← ek) (is_widened m k (mapped_cell c.args.symbol.now) _ _ _ (omega (arith, b.least_rows))
     (omega (arith, b.least_columns)) moved wrapped above c.wrap_rows.ensures.others)
