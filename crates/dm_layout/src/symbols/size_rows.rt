@@ -1,7 +1,7 @@
 //! The sizes of symbols as plain numbers: those of a static needn't be built anew where a size is looked for.
 
 ghost use Rattle.std.specs.Prelude.{◌≡◌, ◌&&◌, nat_eq, nat_le, get_or, find};
-ghost use Rattle.dm_layout.specs.symbols.inner.SizeRows.{row_entry, has_sides, takes_sides};
+ghost use Rattle.dm_layout.specs.symbols.inner.SizeRows.{row_entry, has_sides as has_sides_by, takes_sides};
 ghost use Rattle.dm_layout.specs.declared.symbols.size_rows.TheConstants.{SIZE_ROWS};
 
 use crate::symbols::size::{SIZE_COUNT, SizeChoice};
@@ -59,23 +59,39 @@ pub(crate) static SIZE_ROWS: [[u16; 10]; SIZE_COUNT] = [
     [144, 144, 22, 22, 6, 6, 1558, 620, 10, 0],
 ];
 
+/// Whether these are the numbers of the size with these rows and columns.
+fn has_sides(row: &[u16; 10], rows: u16, columns: u16) -> bool
+    ensures { result ≡ has_sides_by rows columns (row_entry row.now) }
+{
+    row[0] == rows && row[1] == columns
+}
+
 /// Gives the numbers of the size with these rows and columns, if there is one.
 pub(crate) fn row_with(rows: u16, columns: u16) -> Option<[u16; 10]>
-    ensures { result ≡ find (λ row. has_sides rows columns (row_entry row)) SIZE_ROWS }
+    ensures { result ≡ find (λ row. has_sides_by rows columns (row_entry row)) SIZE_ROWS }
 {
     SIZE_ROWS
         .iter()
         .copied()
-        .find(|row| row[0] == rows && row[1] == columns)
+        .find(|row| has_sides(row, rows, columns))
+}
+
+/// Whether these are the numbers of a size that the choice takes and that has at least `count` data codewords, which
+/// are compared first, since that alone rules out all smaller sizes: small ones are found by half of the instructions.
+fn is_enough(row: &[u16; 10], choice: SizeChoice, count: u16) -> bool
+    ensures { result ≡ (nat_le count (get_or row.now 6 0)
+        && takes_sides choice (get_or row.now 0 0) (get_or row.now 1 0) (nat_eq (get_or row.now 9 0) 1)) }
+{
+    count <= row[6] && choice.takes_sides(row[0], row[1], row[9] == 1)
 }
 
 /// Gives the numbers of the first size of the table that the choice takes and that has at least `count` data codewords.
-/// These are compared first, since that alone rules out all smaller sizes: small ones are found by half of the
-/// instructions.
 pub(crate) fn row_for(choice: SizeChoice, count: u16) -> Option<[u16; 10]>
     ensures { result ≡ find (λ row. nat_le count (get_or row 6 0)
         && takes_sides choice (get_or row 0 0) (get_or row 1 0) (nat_eq (get_or row 9 0) 1)) SIZE_ROWS }
 {
-    SIZE_ROWS.iter().copied().find(|row| count <= row[6]
-        && choice.takes_sides(row[0], row[1], row[9] == 1))
+    SIZE_ROWS
+        .iter()
+        .copied()
+        .find(|row| is_enough(row, choice, count))
 }

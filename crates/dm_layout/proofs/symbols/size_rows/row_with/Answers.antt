@@ -1,4 +1,4 @@
-use Rattle.std.proofs.Common.{rules, sym, tests, ◌∙◌}
+use Rattle.std.proofs.Common.{rules, sym, ◌∙◌}
 use Rattle.std.proofs.lemmas.Iterator.{YieldsList-from_slice}
 use Rattle.std.proofs.lemmas.Iterator.Adapters.{option_map_id}
 use Rattle.std.proofs.lemmas.Iterator.Consumers.{YieldsList-at, YieldsList-from_copied}
@@ -13,4 +13,4 @@ returns c =
     ∙ find_from_yields_List (λ row. has_sides c.args.rows c.args.columns (row_entry row)) _ _ c.find.result
     c.find.ensures.ran
     (YieldsList-from_copied (YieldsList-at c.copied.ensures.source (YieldsList-from_slice SIZE_ROWS cc)))
-    (λ x b q k. search (rules, tests))
+    (λ x b q k. search rules)
