@@ -37116,28 +37116,27 @@ ecc200_inspect:
 	b.ne	.LBB105_8
 	and	w9, w5, #0xffff
 	and	w10, w4, #0xffff
-	mov	x16, x2
+	mov	x15, x2
 	add	x2, x2, x14
-	mov	x11, #-48
-	adrp	x12, .Lstatic.0+18
-	add	x12, x12, :lo12:.Lstatic.0+18
-	b	.LBB105_3
+	adrp	x13, .Lstatic.0
+	add	x13, x13, :lo12:.Lstatic.0
+	mov	x11, #-49
 .LBB105_2:
 	adds	x11, x11, #1
-	add	x12, x12, #20
 	b.hs	.LBB105_9
-.LBB105_3:
-	ldurh	w13, [x12, #-18]
+	mov	x12, x13
+	ldrh	w13, [x13]
 	cmp	w13, w10
+	add	x13, x12, #20
 	b.ne	.LBB105_2
-	ldurh	w13, [x12, #-16]
-	cmp	w13, w9
+	ldrh	w16, [x12, #2]
+	cmp	w16, w9
 	b.ne	.LBB105_2
-	ldrh	w17, [x12]
-	ldur	d0, [x12, #-14]
-	ldurh	w11, [x12, #-6]
-	ldurh	w15, [x12, #-4]
-	ldurh	w13, [x12, #-2]
+	ldrh	w17, [x12, #18]
+	ldur	d0, [x12, #4]
+	ldrh	w11, [x12, #12]
+	ldrh	w16, [x12, #14]
+	ldrh	w13, [x12, #16]
 	cmp	w17, #1
 	cset	w12, eq
 	cbz	x3, .LBB105_12
@@ -37189,7 +37188,7 @@ ecc200_inspect:
 	movi	v1.2d, #0000000000000000
 	and	x4, x3, #0xc
 	and	x17, x3, #0xfffffffffffffff0
-	add	x18, x16, x14
+	add	x18, x15, x14
 	and	x5, x3, #0xfffffffffffffff0
 .LBB105_19:
 	ldr	q2, [x18], #16
@@ -37212,7 +37211,7 @@ ecc200_inspect:
 	and	x17, x3, #0xfffffffffffffffc
 	add	x4, x14, x18
 	sub	x18, x18, x17
-	add	x4, x16, x4
+	add	x4, x15, x4
 .LBB105_23:
 	ldr	s2, [x4], #4
 	adds	x18, x18, #4
@@ -37230,9 +37229,9 @@ ecc200_inspect:
 .LBB105_25:
 	add	x4, x14, x17
 	sub	x14, x3, x17
-	add	x16, x16, x4
+	add	x15, x15, x4
 .LBB105_26:
-	ldrb	w17, [x16], #1
+	ldrb	w17, [x15], #1
 	cmp	w17, #0
 	cset	w17, ne
 	subs	x14, x14, #1
@@ -37256,7 +37255,7 @@ ecc200_inspect:
 	mov	x19, x6
 	stur	d0, [sp, #12]
 	strh	w11, [sp, #20]
-	strh	w15, [sp, #22]
+	strh	w16, [sp, #22]
 	strh	w13, [sp, #24]
 	strb	w12, [sp, #26]
 	strb	wzr, [sp, #27]
@@ -37358,26 +37357,25 @@ ecc200_normal:
 	cmp	x3, x17
 	b.ne	.LBB106_25
 	add	x4, x2, x15
-	mov	x17, #-48
-	adrp	x18, .Lstatic.0+18
-	add	x18, x18, :lo12:.Lstatic.0+18
-	b	.LBB106_20
+	adrp	x1, .Lstatic.0
+	add	x1, x1, :lo12:.Lstatic.0
+	mov	x17, #-49
 .LBB106_19:
 	adds	x17, x17, #1
-	add	x18, x18, #20
 	b.hs	.LBB106_28
-.LBB106_20:
-	ldurh	w1, [x18, #-18]
+	mov	x18, x1
+	ldrh	w1, [x1]
 	cmp	w1, w11
+	add	x1, x18, #20
 	b.ne	.LBB106_19
-	ldurh	w1, [x18, #-16]
-	cmp	w1, w12
+	ldrh	w5, [x18, #2]
+	cmp	w5, w12
 	b.ne	.LBB106_19
-	ldrh	w7, [x18]
-	ldur	d0, [x18, #-14]
-	ldurh	w17, [x18, #-6]
-	ldurh	w5, [x18, #-4]
-	ldurh	w1, [x18, #-2]
+	ldrh	w7, [x18, #18]
+	ldur	d0, [x18, #4]
+	ldrh	w17, [x18, #12]
+	ldrh	w5, [x18, #14]
+	ldrh	w1, [x18, #16]
 	cmp	w7, #1
 	cset	w18, eq
 	cbz	x8, .LBB106_31
@@ -37594,28 +37592,28 @@ ecc200_places:
 	.cfi_offset w30, -88
 	.cfi_offset w29, -96
 	.cfi_remember_state
+	adrp	x9, .Lstatic.0
+	add	x9, x9, :lo12:.Lstatic.0
 	and	w8, w1, #0xffff
+	sub	x10, x9, #16
 	and	w12, w0, #0xffff
-	mov	x9, #-48
-	adrp	x10, .Lstatic.0+6
-	add	x10, x10, :lo12:.Lstatic.0+6
-	b	.LBB107_2
+	mov	x9, #-49
 .LBB107_1:
 	adds	x9, x9, #1
-	add	x10, x10, #20
 	b.hs	.LBB107_26
-.LBB107_2:
-	ldurh	w11, [x10, #-6]
-	cmp	w11, w12
+	mov	x11, x10
+	ldrh	w10, [x10, #16]
+	cmp	w10, w12
+	add	x10, x11, #20
 	b.ne	.LBB107_1
-	ldurh	w11, [x10, #-4]
+	ldrh	w11, [x11, #18]
 	cmp	w11, w8
 	b.ne	.LBB107_1
-	ldurh	w11, [x10, #-2]
-	ldrh	w9, [x10]
-	ldrh	w15, [x10, #4]
-	stp	w9, w11, [sp, #120]
+	ldrh	w11, [x10]
 	ldrh	w9, [x10, #2]
+	ldrh	w15, [x10, #6]
+	stp	w9, w11, [sp, #120]
+	ldrh	w9, [x10, #4]
 	add	x10, x2, #10
 	str	wzr, [x2]
 	strh	wzr, [x2, #4]
@@ -38585,26 +38583,25 @@ ecc200_read:
 	cmp	x1, x16
 	b.ne	.LBB108_23
 	add	x3, x2, x15
-	mov	x16, #-48
-	adrp	x17, .Lstatic.0+18
-	add	x17, x17, :lo12:.Lstatic.0+18
-	b	.LBB108_18
+	adrp	x18, .Lstatic.0
+	add	x18, x18, :lo12:.Lstatic.0
+	mov	x16, #-49
 .LBB108_17:
 	adds	x16, x16, #1
-	add	x17, x17, #20
 	b.hs	.LBB108_24
-.LBB108_18:
-	ldurh	w18, [x17, #-18]
+	mov	x17, x18
+	ldrh	w18, [x18]
 	cmp	w18, w11
+	add	x18, x17, #20
 	b.ne	.LBB108_17
-	ldurh	w18, [x17, #-16]
-	cmp	w18, w12
+	ldrh	w4, [x17, #2]
+	cmp	w4, w12
 	b.ne	.LBB108_17
-	ldrh	w6, [x17]
-	ldur	d0, [x17, #-14]
-	ldurh	w16, [x17, #-6]
-	ldurh	w4, [x17, #-4]
-	ldurh	w18, [x17, #-2]
+	ldrh	w6, [x17, #18]
+	ldur	d0, [x17, #4]
+	ldrh	w16, [x17, #12]
+	ldrh	w4, [x17, #14]
+	ldrh	w18, [x17, #16]
 	cmp	w6, #1
 	cset	w17, eq
 	cbz	x9, .LBB108_27

@@ -81283,78 +81283,78 @@ ecc200_inspect:
 	.cfi_remember_state
 	lui	s1, 16
 	addi	s1, s1, -1
-	and	t4, a5, s1
-	and	s10, a4, s1
-	mul	a5, t4, s10
+	and	s10, a5, s1
+	and	s11, a4, s1
+	mul	a5, s10, s11
 	bne	a1, a5, .LBB107_8
 	seqz	a5, a0
 	seqz	a7, a2
 .Lpcrel_hi137:
-	auipc	s1, %pcrel_hi(.Lstatic.0+10)
-	slli	s0, a5, 12
+	auipc	s1, %pcrel_hi(.Lstatic.0)
+	slli	a5, a5, 12
 	slli	a7, a7, 12
-	addi	a5, s1, %pcrel_lo(.Lpcrel_hi137)
-	add	a0, a0, s0
+	addi	s1, s1, %pcrel_lo(.Lpcrel_hi137)
+	add	a0, a0, a5
 	mv	t0, a2
 	add	a2, a2, a7
-	li	s1, -48
-	j	.LBB107_3
+	addi	a5, s1, -8
+	li	s0, -49
 .LBB107_2:
-	addi	s1, s1, 1
-	addi	a5, a5, 20
-	beqz	s1, .LBB107_9
-.LBB107_3:
-	lbu	s0, -9(a5)
-	lbu	a4, -10(a5)
-	slli	s0, s0, 8
-	or	a4, a4, s0
-	bne	a4, s10, .LBB107_2
-	lbu	a4, -7(a5)
-	lbu	s0, -8(a5)
-	slli	a4, a4, 8
-	or	a4, a4, s0
-	bne	a4, t4, .LBB107_2
-	lbu	t1, -6(a5)
-	lbu	s1, -5(a5)
-	lbu	t2, -4(a5)
-	lbu	s0, -3(a5)
-	lbu	t3, -2(a5)
-	lbu	t5, -1(a5)
-	lbu	s2, 0(a5)
-	lbu	t6, 1(a5)
-	lbu	s3, 2(a5)
-	lbu	s7, 3(a5)
-	lbu	s4, 4(a5)
-	lbu	s8, 5(a5)
-	lbu	s5, 6(a5)
-	lbu	s9, 7(a5)
-	lbu	s6, 8(a5)
+	addi	s0, s0, 1
+	beqz	s0, .LBB107_9
+	mv	s1, a5
 	lbu	a5, 9(a5)
+	lbu	a4, 8(s1)
+	slli	a5, a5, 8
+	or	a4, a4, a5
+	addi	a5, s1, 20
+	bne	a4, s11, .LBB107_2
+	lbu	a4, 11(s1)
+	lbu	s1, 10(s1)
+	slli	a4, a4, 8
+	or	a4, a4, s1
+	bne	a4, s10, .LBB107_2
+	lbu	t1, -8(a5)
+	lbu	s0, -7(a5)
+	lbu	t2, -6(a5)
+	lbu	t4, -5(a5)
+	lbu	t3, -4(a5)
+	lbu	t5, -3(a5)
+	lbu	s2, -2(a5)
+	lbu	t6, -1(a5)
+	lbu	s3, 0(a5)
+	lbu	s7, 1(a5)
+	lbu	s4, 2(a5)
+	lbu	s8, 3(a5)
+	lbu	s5, 4(a5)
+	lbu	s9, 5(a5)
+	lbu	s6, 6(a5)
+	lbu	s1, 7(a5)
 	beqz	a3, .LBB107_12
 	beq	a3, a1, .LBB107_12
+	li	s11, 0
 	li	s10, 0
-	li	t4, 0
 	li	a0, 19
 	j	.LBB107_10
 .LBB107_8:
+	li	s11, 0
 	li	s10, 0
-	li	t4, 0
 	li	a0, 3
 	j	.LBB107_10
 .LBB107_9:
 	li	a0, 4
 .LBB107_10:
-	srli	a1, s10, 8
-	srli	a2, t4, 8
+	srli	a1, s11, 8
+	srli	a2, s10, 8
 	sh	zero, 10(a6)
 	sh	zero, 12(a6)
 	sh	zero, 14(a6)
 	sh	zero, 16(a6)
 	sb	a0, 0(a6)
 	sb	zero, 1(a6)
-	sb	s10, 2(a6)
+	sb	s11, 2(a6)
 	sb	a1, 3(a6)
-	sb	t4, 4(a6)
+	sb	s10, 4(a6)
 	sb	a2, 5(a6)
 	sh	zero, 6(a6)
 	sh	zero, 8(a6)
@@ -81392,40 +81392,40 @@ ecc200_inspect:
 	ret
 .LBB107_12:
 	.cfi_restore_state
-	slli	s11, s1, 8
-	slli	s0, s0, 8
-	slli	a4, t5, 8
-	slli	s1, t6, 8
+	slli	ra, s0, 8
+	slli	a4, t4, 8
+	slli	a5, t5, 8
+	slli	s0, t6, 8
 	slli	s7, s7, 8
 	slli	s8, s8, 8
 	slli	s9, s9, 8
-	slli	a5, a5, 8
-	or	s11, s11, t1
-	or	t5, s0, t2
-	or	t6, a4, t3
-	or	s2, s1, s2
+	slli	s1, s1, 8
+	or	t4, ra, t1
+	or	t5, a4, t2
+	or	t6, a5, t3
+	or	s2, s0, s2
 	or	t1, s7, s3
 	or	s3, s8, s4
 	or	t2, s9, s5
-	or	a4, a5, s6
-	addi	a4, a4, -1
-	seqz	t3, a4
-	li	s0, 0
+	or	a5, s1, s6
+	addi	a5, a5, -1
+	seqz	t3, a5
+	li	a4, 0
 	beqz	a3, .LBB107_15
 	add	a7, a7, a3
 	add	t0, t0, a7
-	mv	s1, a2
+	mv	a5, a2
 .LBB107_14:
-	lbu	a4, 0(s1)
-	addi	s1, s1, 1
-	snez	a4, a4
-	or	s0, s0, a4
-	bne	s1, t0, .LBB107_14
+	lbu	s1, 0(a5)
+	addi	a5, a5, 1
+	snez	s0, s1
+	or	a4, a4, s0
+	bne	a5, t0, .LBB107_14
 .LBB107_15:
-	andi	s0, s0, 1
-	sh	s10, 2(sp)
-	sh	t4, 4(sp)
-	sh	s11, 6(sp)
+	andi	a5, a4, 1
+	sh	s11, 2(sp)
+	sh	s10, 4(sp)
+	sh	t4, 6(sp)
 	sh	t5, 8(sp)
 	sh	t6, 10(sp)
 	sh	s2, 12(sp)
@@ -81437,7 +81437,7 @@ ecc200_inspect:
 	sh	t2, 18(sp)
 	sb	t3, 20(sp)
 	sb	zero, 21(sp)
-	sb	s0, 22(sp)
+	sb	a5, 22(sp)
 	li	a5, 1
 	bgeu	t1, s1, .LBB107_17
 	li	s1, 1
@@ -81605,46 +81605,47 @@ ecc200_normal:
 	seqz	a4, a0
 	seqz	a5, a2
 .Lpcrel_hi138:
-	auipc	s1, %pcrel_hi(.Lstatic.0+10)
+	auipc	s1, %pcrel_hi(.Lstatic.0)
 	slli	a4, a4, 12
-	slli	t5, a5, 12
-	addi	s1, s1, %pcrel_lo(.Lpcrel_hi138)
+	slli	t6, a5, 12
+	addi	t5, s1, %pcrel_lo(.Lpcrel_hi138)
 	add	a7, a0, a4
-	add	a4, a2, t5
-	li	a0, -48
-	j	.LBB108_21
+	add	a5, a2, t6
+	addi	t5, t5, -8
+	li	s1, -49
 .LBB108_20:
-	addi	a0, a0, 1
-	addi	s1, s1, 20
-	beqz	a0, .LBB108_27
-.LBB108_21:
-	lbu	s0, -9(s1)
-	lbu	a5, -10(s1)
-	slli	s0, s0, 8
-	or	a5, a5, s0
-	bne	a5, a3, .LBB108_20
-	lbu	a5, -7(s1)
-	lbu	s0, -8(s1)
-	slli	a5, a5, 8
-	or	a5, a5, s0
-	bne	a5, s6, .LBB108_20
-	sd	a7, 8(sp)
-	lbu	a5, -6(s1)
-	lbu	a0, -5(s1)
-	lbu	t6, -4(s1)
-	lbu	s0, -3(s1)
-	lbu	s3, -2(s1)
-	lbu	s2, -1(s1)
-	lbu	s4, 0(s1)
-	lbu	s7, 1(s1)
-	lbu	s5, 2(s1)
-	lbu	s11, 3(s1)
-	lbu	s8, 4(s1)
-	lbu	ra, 5(s1)
-	lbu	s9, 6(s1)
-	lbu	a7, 7(s1)
-	lbu	s10, 8(s1)
-	lbu	s1, 9(s1)
+	addi	s1, s1, 1
+	beqz	s1, .LBB108_27
+	mv	a0, t5
+	lbu	a4, 9(t5)
+	lbu	s0, 8(t5)
+	slli	a4, a4, 8
+	or	a4, a4, s0
+	addi	t5, t5, 20
+	bne	a4, a3, .LBB108_20
+	lbu	a4, 11(a0)
+	lbu	a0, 10(a0)
+	slli	a4, a4, 8
+	or	a0, a0, a4
+	bne	a0, s6, .LBB108_20
+	sd	a7, 0(sp)
+	sd	a5, 8(sp)
+	lbu	a4, -8(t5)
+	lbu	s1, -7(t5)
+	lbu	a5, -6(t5)
+	lbu	s0, -5(t5)
+	lbu	s3, -4(t5)
+	lbu	s2, -3(t5)
+	lbu	s4, -2(t5)
+	lbu	s7, -1(t5)
+	lbu	s5, 0(t5)
+	lbu	s11, 1(t5)
+	lbu	s8, 2(t5)
+	lbu	ra, 3(t5)
+	lbu	s9, 4(t5)
+	lbu	a7, 5(t5)
+	lbu	s10, 6(t5)
+	lbu	a0, 7(t5)
 	beqz	t0, .LBB108_31
 	beq	t0, t1, .LBB108_31
 	li	a3, 0
@@ -81703,37 +81704,40 @@ ecc200_normal:
 	ret
 .LBB108_31:
 	.cfi_restore_state
-	slli	a0, a0, 8
+	slli	t5, s1, 8
 	slli	s0, s0, 8
 	slli	s2, s2, 8
-	slli	s7, s7, 8
+	slli	s1, s7, 8
 	slli	s11, s11, 8
 	slli	ra, ra, 8
 	slli	a7, a7, 8
-	slli	s1, s1, 8
-	or	a0, a0, a5
-	sd	a0, 0(sp)
-	or	t6, s0, t6
+	slli	a0, a0, 8
+	or	s7, t5, a4
+	or	t5, s0, a5
 	or	s3, s2, s3
-	or	s4, s7, s4
-	or	s7, s11, s5
+	or	s4, s1, s4
+	or	s1, s11, s5
 	or	s5, ra, s8
 	or	s2, a7, s9
-	or	a0, s1, s10
+	or	a0, a0, s10
 	addi	a0, a0, -1
 	seqz	a7, a0
 	li	s0, 0
 	beqz	t0, .LBB108_34
-	add	t5, t5, t0
-	add	a2, a2, t5
+	add	a5, t6, t0
+	add	a2, a2, a5
+	ld	a4, 8(sp)
 	mv	a5, a4
 .LBB108_33:
-	lbu	s1, 0(a5)
+	lbu	a0, 0(a5)
 	addi	a5, a5, 1
-	snez	a0, s1
+	snez	a0, a0
 	or	s0, s0, a0
 	bne	a5, a2, .LBB108_33
+	j	.LBB108_35
 .LBB108_34:
+	ld	a4, 8(sp)
+.LBB108_35:
 	andi	s0, s0, 1
 	sb	a1, 23(sp)
 	sh	a3, 46(sp)
@@ -81744,34 +81748,33 @@ ecc200_normal:
 	sh	t4, 54(sp)
 	sh	a3, 24(sp)
 	sh	s6, 26(sp)
-	ld	a0, 0(sp)
-	sh	a0, 28(sp)
-	sh	t6, 30(sp)
+	sh	s7, 28(sp)
+	sh	t5, 30(sp)
 	sh	s3, 32(sp)
 	sh	s4, 34(sp)
-	sh	s7, 36(sp)
+	sh	s1, 36(sp)
 	sh	s5, 38(sp)
 	sb	zero, 45(sp)
-	sltiu	a0, s7, 63
-	li	a2, 205
+	sltiu	a1, s1, 63
+	li	a0, 205
 	sh	s2, 40(sp)
 	sb	a7, 42(sp)
 	sb	zero, 43(sp)
 	sb	s0, 44(sp)
-	li	a1, 1
-	bgeu	s7, a2, .LBB108_36
 	li	a3, 1
-	j	.LBB108_37
-.LBB108_36:
-	sltiu	a2, s7, 817
-	xori	a3, a2, 3
+	bgeu	s1, a0, .LBB108_37
+	li	a0, 1
+	j	.LBB108_38
 .LBB108_37:
-	ld	a2, 8(sp)
-	addi	a0, a0, -1
+	sltiu	a0, s1, 817
+	xori	a0, a0, 3
+.LBB108_38:
+	ld	a2, 0(sp)
+	addi	a1, a1, -1
 	mv	s0, a6
-	and	a0, a0, a3
-	blt	a1, a0, .LBB108_40
-	bnez	a0, .LBB108_42
+	and	a0, a0, a1
+	blt	a3, a0, .LBB108_41
+	bnez	a0, .LBB108_43
 	addi	a0, sp, 23
 	addi	a1, sp, 46
 	addi	a6, sp, 24
@@ -81781,9 +81784,9 @@ ecc200_normal:
 	call	"ecc200_calls::answer::answer_given::<#67f27f8c38696f0b>"
 	lhu	a1, 0(s0)
 	j	.LBB108_30
-.LBB108_40:
+.LBB108_41:
 	li	a1, 2
-	bne	a0, a1, .LBB108_43
+	bne	a0, a1, .LBB108_44
 	addi	a0, sp, 23
 	addi	a1, sp, 46
 	addi	a6, sp, 24
@@ -81793,7 +81796,7 @@ ecc200_normal:
 	call	"ecc200_calls::answer::answer_given::<#1120882bd96666a5>"
 	lhu	a1, 0(s0)
 	j	.LBB108_30
-.LBB108_42:
+.LBB108_43:
 	addi	a0, sp, 23
 	addi	a1, sp, 46
 	addi	a6, sp, 24
@@ -81803,7 +81806,7 @@ ecc200_normal:
 	call	"ecc200_calls::answer::answer_given::<#e937d748901de80e>"
 	lhu	a1, 0(s0)
 	j	.LBB108_30
-.LBB108_43:
+.LBB108_44:
 	addi	a0, sp, 23
 	addi	a1, sp, 46
 	addi	a6, sp, 24
@@ -81853,39 +81856,39 @@ ecc200_places:
 	.cfi_remember_state
 	lui	a3, 16
 .Lpcrel_hi139:
-	auipc	a5, %pcrel_hi(.Lstatic.0+6)
-	addi	a4, a3, -1
-	addi	a5, a5, %pcrel_lo(.Lpcrel_hi139)
-	and	t0, a1, a4
-	and	a4, a4, a0
-	li	s1, -48
-	j	.LBB109_2
+	auipc	a4, %pcrel_hi(.Lstatic.0)
+	addi	a5, a3, -1
+	addi	s0, a4, %pcrel_lo(.Lpcrel_hi139)
+	and	t0, a1, a5
+	and	a4, a0, a5
+	addi	s0, s0, -16
+	li	s1, -49
 .LBB109_1:
 	addi	s1, s1, 1
-	addi	a5, a5, 20
 	beqz	s1, .LBB109_28
-.LBB109_2:
-	lbu	s0, -5(a5)
-	lbu	a3, -6(a5)
+	mv	a5, s0
+	lbu	s0, 17(s0)
+	lbu	a3, 16(a5)
 	slli	s0, s0, 8
 	or	a3, a3, s0
+	addi	s0, a5, 20
 	bne	a3, a4, .LBB109_1
-	lbu	a3, -3(a5)
-	lbu	s0, -4(a5)
+	lbu	a3, 19(a5)
+	lbu	a5, 18(a5)
 	slli	a3, a3, 8
-	or	a3, a3, s0
+	or	a3, a3, a5
 	bne	a3, t0, .LBB109_1
-	lbu	a3, -1(a5)
-	lbu	s1, -2(a5)
-	lbu	t1, 0(a5)
-	lbu	s0, 1(a5)
+	lbu	a3, 1(s0)
+	lbu	a5, 0(s0)
+	lbu	t1, 2(s0)
+	lbu	s1, 3(s0)
 	slli	a3, a3, 8
-	or	a3, a3, s1
+	or	a3, a3, a5
 	sd	a3, 320(sp)
-	lbu	a6, 2(a5)
-	lbu	t2, 3(a5)
-	lbu	a7, 4(a5)
-	lbu	t3, 5(a5)
+	lbu	a6, 4(s0)
+	lbu	t2, 5(s0)
+	lbu	a7, 6(s0)
+	lbu	t3, 7(s0)
 	sb	zero, 0(a2)
 	sb	zero, 1(a2)
 	sb	zero, 2(a2)
@@ -81894,8 +81897,8 @@ ecc200_places:
 	sb	zero, 5(a2)
 	sh	a4, 6(a2)
 	sh	t0, 8(a2)
-	slli	s0, s0, 8
-	or	a3, s0, t1
+	slli	s1, s1, 8
+	or	a3, s1, t1
 	sd	a3, 312(sp)
 	addi	a3, a2, 10
 	sd	a3, 184(sp)
@@ -82947,21 +82950,21 @@ ecc200_places:
 	.type	ecc200_read,@function
 ecc200_read:
 	.cfi_startproc
-	addi	sp, sp, -144
-	.cfi_def_cfa_offset 144
-	sd	ra, 136(sp)
-	sd	s0, 128(sp)
-	sd	s1, 120(sp)
-	sd	s2, 112(sp)
-	sd	s3, 104(sp)
-	sd	s4, 96(sp)
-	sd	s5, 88(sp)
-	sd	s6, 80(sp)
-	sd	s7, 72(sp)
-	sd	s8, 64(sp)
-	sd	s9, 56(sp)
-	sd	s10, 48(sp)
-	sd	s11, 40(sp)
+	addi	sp, sp, -160
+	.cfi_def_cfa_offset 160
+	sd	ra, 152(sp)
+	sd	s0, 144(sp)
+	sd	s1, 136(sp)
+	sd	s2, 128(sp)
+	sd	s3, 120(sp)
+	sd	s4, 112(sp)
+	sd	s5, 104(sp)
+	sd	s6, 96(sp)
+	sd	s7, 88(sp)
+	sd	s8, 80(sp)
+	sd	s9, 72(sp)
+	sd	s10, 64(sp)
+	sd	s11, 56(sp)
 	.cfi_offset ra, -8
 	.cfi_offset s0, -16
 	.cfi_offset s1, -24
@@ -82999,7 +83002,7 @@ ecc200_read:
 	slli	t5, t5, 8
 	slli	t6, t6, 8
 	slli	s1, s1, 8
-	or	t5, t5, t0
+	or	a4, t5, t0
 	or	t0, t6, t4
 	or	a3, s1, s2
 	li	s0, 24
@@ -83031,7 +83034,7 @@ ecc200_read:
 	j	.LBB110_25
 .LBB110_12:
 	li	t2, 0
-	add	a3, t0, t5
+	add	a3, t0, a4
 	srli	t3, a3, 3
 	j	.LBB110_14
 .LBB110_13:
@@ -83039,70 +83042,72 @@ ecc200_read:
 	lui	t3, 16
 	addi	t3, t3, -1
 .LBB110_14:
-	mul	a3, t0, t5
+	mul	a3, t0, a4
 	bne	a1, a3, .LBB110_22
-	sd	a1, 0(sp)
+	sd	a1, 16(sp)
 	seqz	a1, a0
 	seqz	s0, a2
 .Lpcrel_hi141:
-	auipc	a3, %pcrel_hi(.Lstatic.0+10)
+	auipc	s1, %pcrel_hi(.Lstatic.0)
 	slli	a1, a1, 12
-	slli	a6, s0, 12
-	addi	s1, a3, %pcrel_lo(.Lpcrel_hi141)
-	add	a1, a1, a0
-	add	a3, a2, a6
-	li	a0, -48
-	j	.LBB110_17
+	slli	t4, s0, 12
+	addi	a6, s1, %pcrel_lo(.Lpcrel_hi141)
+	add	t5, a0, a1
+	add	a1, a2, t4
+	addi	a6, a6, -8
+	li	s1, -49
 .LBB110_16:
-	addi	a0, a0, 1
-	addi	s1, s1, 20
-	beqz	a0, .LBB110_23
-.LBB110_17:
-	lbu	s0, -9(s1)
-	lbu	a4, -10(s1)
-	slli	s0, s0, 8
-	or	a4, a4, s0
-	bne	a4, t5, .LBB110_16
-	lbu	a4, -7(s1)
-	lbu	s0, -8(s1)
-	slli	a4, a4, 8
-	or	a4, a4, s0
-	bne	a4, t0, .LBB110_16
-	lbu	t4, -6(s1)
-	lbu	a0, -5(s1)
-	lbu	a4, -4(s1)
-	lbu	t6, -3(s1)
-	lbu	s2, -2(s1)
-	lbu	s5, -1(s1)
-	lbu	s3, 0(s1)
-	lbu	s9, 1(s1)
-	lbu	s4, 2(s1)
-	lbu	s10, 3(s1)
-	lbu	s6, 4(s1)
-	lbu	s11, 5(s1)
-	lbu	s7, 6(s1)
-	lbu	ra, 7(s1)
-	lbu	s8, 8(s1)
-	lbu	s1, 9(s1)
+	addi	s1, s1, 1
+	beqz	s1, .LBB110_23
+	mv	a0, a6
+	lbu	a3, 9(a6)
+	lbu	s0, 8(a6)
+	slli	a3, a3, 8
+	or	a3, a3, s0
+	addi	a6, a6, 20
+	bne	a3, a4, .LBB110_16
+	lbu	a3, 11(a0)
+	lbu	a0, 10(a0)
+	slli	a3, a3, 8
+	or	a0, a0, a3
+	bne	a0, t0, .LBB110_16
+	sd	t5, 8(sp)
+	sd	a1, 0(sp)
+	lbu	a1, -8(a6)
+	lbu	s1, -7(a6)
+	lbu	t5, -6(a6)
+	lbu	t6, -5(a6)
+	lbu	s2, -4(a6)
+	lbu	s5, -3(a6)
+	lbu	s3, -2(a6)
+	lbu	s9, -1(a6)
+	lbu	s4, 0(a6)
+	lbu	s10, 1(a6)
+	lbu	s6, 2(a6)
+	lbu	s11, 3(a6)
+	lbu	s7, 4(a6)
+	lbu	ra, 5(a6)
+	lbu	s8, 6(a6)
+	lbu	a0, 7(a6)
 	beqz	a7, .LBB110_27
-	ld	s0, 0(sp)
-	beq	a7, s0, .LBB110_27
-	li	t5, 0
+	ld	a3, 16(sp)
+	beq	a7, a3, .LBB110_27
+	li	a4, 0
 	li	t0, 0
 	li	s0, 19
 	j	.LBB110_24
 .LBB110_22:
-	li	t5, 0
+	li	a4, 0
 	li	t0, 0
 	li	s0, 3
 	j	.LBB110_24
 .LBB110_23:
 	li	s0, 4
 .LBB110_24:
-	srli	a0, t5, 8
+	srli	a0, a4, 8
 	sb	s0, 0(a5)
 	sb	zero, 1(a5)
-	sb	t5, 2(a5)
+	sb	a4, 2(a5)
 	sb	a0, 3(a5)
 	srli	a0, t0, 8
 	sb	t0, 4(a5)
@@ -83114,19 +83119,19 @@ ecc200_read:
 	call	memset
 .LBB110_26:
 	mv	a0, s0
-	ld	ra, 136(sp)
-	ld	s0, 128(sp)
-	ld	s1, 120(sp)
-	ld	s2, 112(sp)
-	ld	s3, 104(sp)
-	ld	s4, 96(sp)
-	ld	s5, 88(sp)
-	ld	s6, 80(sp)
-	ld	s7, 72(sp)
-	ld	s8, 64(sp)
-	ld	s9, 56(sp)
-	ld	s10, 48(sp)
-	ld	s11, 40(sp)
+	ld	ra, 152(sp)
+	ld	s0, 144(sp)
+	ld	s1, 136(sp)
+	ld	s2, 128(sp)
+	ld	s3, 120(sp)
+	ld	s4, 112(sp)
+	ld	s5, 104(sp)
+	ld	s6, 96(sp)
+	ld	s7, 88(sp)
+	ld	s8, 80(sp)
+	ld	s9, 72(sp)
+	ld	s10, 64(sp)
+	ld	s11, 56(sp)
 	.cfi_restore ra
 	.cfi_restore s0
 	.cfi_restore s1
@@ -83140,109 +83145,114 @@ ecc200_read:
 	.cfi_restore s9
 	.cfi_restore s10
 	.cfi_restore s11
-	addi	sp, sp, 144
+	addi	sp, sp, 160
 	.cfi_def_cfa_offset 0
 	ret
 .LBB110_27:
 	.cfi_restore_state
-	slli	a0, a0, 8
-	slli	s0, t6, 8
-	slli	s5, s5, 8
+	slli	s1, s1, 8
+	slli	a3, t6, 8
+	slli	s0, s5, 8
 	slli	s9, s9, 8
 	slli	s10, s10, 8
 	slli	s11, s11, 8
 	slli	ra, ra, 8
-	slli	s1, s1, 8
-	or	t6, a0, t4
-	or	t4, s0, a4
-	or	s2, s5, s2
+	slli	a0, a0, 8
+	or	t6, s1, a1
+	or	s5, a3, t5
+	or	s2, s0, s2
 	or	s3, s9, s3
-	or	s9, s10, s4
+	or	a1, s10, s4
 	or	s4, s11, s6
-	or	s6, ra, s7
-	or	a0, s1, s8
+	or	a6, ra, s7
+	or	a0, a0, s8
 	addi	a0, a0, -1
-	seqz	s5, a0
-	li	a4, 0
+	seqz	t5, a0
+	li	s1, 0
 	beqz	a7, .LBB110_30
-	add	a6, a6, a7
-	add	a2, a2, a6
+	add	t4, t4, a7
+	add	a2, a2, t4
+	ld	a3, 0(sp)
 	mv	s0, a3
 .LBB110_29:
-	lbu	s1, 0(s0)
+	lbu	a0, 0(s0)
 	addi	s0, s0, 1
-	snez	a0, s1
-	or	a4, a4, a0
+	snez	a0, a0
+	or	s1, s1, a0
 	bne	s0, a2, .LBB110_29
+	j	.LBB110_31
 .LBB110_30:
-	andi	a4, a4, 1
-	sh	t5, 30(sp)
-	sh	t0, 32(sp)
-	sb	t1, 34(sp)
-	sb	zero, 35(sp)
-	sh	t2, 36(sp)
-	sh	t3, 38(sp)
-	sh	t5, 8(sp)
-	sh	t0, 10(sp)
-	sh	t6, 12(sp)
-	sh	t4, 14(sp)
-	sh	s2, 16(sp)
-	sh	s3, 18(sp)
-	sh	s9, 20(sp)
-	sh	s4, 22(sp)
-	sb	zero, 29(sp)
-	sltiu	a0, s9, 63
-	li	s1, 205
-	sh	s6, 24(sp)
-	sb	s5, 26(sp)
-	sb	zero, 27(sp)
-	sb	a4, 28(sp)
-	li	a2, 1
-	bgeu	s9, s1, .LBB110_32
+	ld	a3, 0(sp)
+.LBB110_31:
+	andi	s1, s1, 1
+	sh	a4, 46(sp)
+	sh	t0, 48(sp)
+	sb	t1, 50(sp)
+	sb	zero, 51(sp)
+	sh	t2, 52(sp)
+	sh	t3, 54(sp)
+	sh	a4, 24(sp)
+	sh	t0, 26(sp)
+	sh	t6, 28(sp)
+	sh	s5, 30(sp)
+	sh	s2, 32(sp)
+	sh	s3, 34(sp)
+	sh	a1, 36(sp)
+	sh	s4, 38(sp)
+	sb	zero, 45(sp)
+	sltiu	a2, a1, 63
+	li	a0, 205
+	sh	a6, 40(sp)
+	sb	t5, 42(sp)
+	sb	zero, 43(sp)
+	sb	s1, 44(sp)
 	li	a4, 1
-	j	.LBB110_33
-.LBB110_32:
-	sltiu	a4, s9, 817
-	xori	a4, a4, 3
+	bgeu	a1, a0, .LBB110_33
+	li	a0, 1
+	j	.LBB110_34
 .LBB110_33:
-	addi	a0, a0, -1
+	sltiu	a0, a1, 817
+	xori	a0, a0, 3
+.LBB110_34:
+	ld	a1, 8(sp)
+	addi	a2, a2, -1
 	mv	s0, a5
-	and	a0, a0, a4
-	blt	a2, a0, .LBB110_36
-	bnez	a0, .LBB110_38
-	addi	a0, sp, 30
-	addi	a5, sp, 8
-	ld	a2, 0(sp)
+	and	a0, a0, a2
+	blt	a4, a0, .LBB110_37
+	bnez	a0, .LBB110_39
+	addi	a0, sp, 46
+	addi	a5, sp, 24
+	ld	a2, 16(sp)
 	mv	a4, a7
 	mv	a6, s0
 	call	"ecc200_calls::answer::answer_given::<#7b928245427000c4>"
-	j	.LBB110_40
-.LBB110_36:
+	j	.LBB110_41
+.LBB110_37:
 	li	a2, 2
-	bne	a0, a2, .LBB110_39
-	addi	a0, sp, 30
-	addi	a5, sp, 8
-	ld	a2, 0(sp)
+	bne	a0, a2, .LBB110_40
+	addi	a0, sp, 46
+	addi	a5, sp, 24
+	ld	a2, 16(sp)
 	mv	a4, a7
 	mv	a6, s0
 	call	"ecc200_calls::answer::answer_given::<#a1ea276ad3ef9c9c>"
-	j	.LBB110_40
-.LBB110_38:
-	addi	a0, sp, 30
-	addi	a5, sp, 8
-	ld	a2, 0(sp)
+	j	.LBB110_41
+.LBB110_39:
+	addi	a0, sp, 46
+	addi	a5, sp, 24
+	ld	a2, 16(sp)
 	mv	a4, a7
 	mv	a6, s0
 	call	"ecc200_calls::answer::answer_given::<#d2faac338cf57797>"
-	j	.LBB110_40
-.LBB110_39:
-	addi	a0, sp, 30
-	addi	a5, sp, 8
-	ld	a2, 0(sp)
+	j	.LBB110_41
+.LBB110_40:
+	addi	a0, sp, 46
+	addi	a5, sp, 24
+	ld	a2, 16(sp)
 	mv	a4, a7
 	mv	a6, s0
 	call	"ecc200_calls::answer::answer_given::<#bf8ac5d4f1318e40>"
-.LBB110_40:
+.LBB110_41:
 	lhu	s0, 0(s0)
 	j	.LBB110_26
 .Lfunc_end110:
