@@ -121,7 +121,7 @@ class Batches(PackageCase):
         os.makedirs(os.path.join(here, "scans"))
         for number in range(12):
             self.ecc("write", f"SN-{number:02}", "-o", f"scans/{number:02}.png")
-        Image.effect_noise((900, 700), 90).save(os.path.join(here, "scans", "00-noise.png"))
+        Image.effect_noise((300, 240), 90).save(os.path.join(here, "scans", "00-noise.png"))
         saved(here, "scans/04-grids.txt", symbols(b"grid 1", b"grid 2"))
         saved(here, "scans/08-broken.png", b"\x89PNG\r\n\x1a\nrubbish")
         alone = self.ecc("read -r scans")

@@ -66,10 +66,10 @@ class Limits(PackageCase):
         Image = self.needs_search("little memory").Image
         here = self.made("memory")
         picture_of(b"small").save(os.path.join(here, "a.png"))
-        Image.new("RGBA", (5000, 5000)).save(os.path.join(here, "large.png"), compress_level=1)
+        Image.new("RGBA", (2500, 2500)).save(os.path.join(here, "large.png"), compress_level=1)
         picture_of(b"last").save(os.path.join(here, "z.png"))
         outputs = set()
-        for limit in range(60_000, 700_000, 70_000):
+        for limit in range(60_000, 330_000, 30_000):
             if shell(f"ulimit -v {limit}; $E read a.png", here)[0]:
                 continue  # there is too little for the smallest
             for jobs in ("1", "3"):
