@@ -35,17 +35,17 @@ zpty -r shell told $'*\\ntold: *\\n*' && print -r -- ${${${told##*$'\\n'told: }%
 
 
 class Clone(Case):
-    def setUp(self):
-        self.room = self.folder()
-        self.clone = os.path.join(self.room, "clone")
-        subprocess.run(["git", "clone", "--quiet", places.TOP, self.clone], check=True)
-        path = os.pathsep.join(it for it in os.environ["PATH"].split(os.pathsep)
-                               if not os.path.exists(os.path.join(it, "rt")))
-        self.env = commands.environment(PATH=path, CARGO_NET_OFFLINE="true", npm_config_offline="true",
-                                        npm_config_cache=os.path.join(self.room, "npm"))
+    @classmethod
+    def setUpClass(cls):
+        cls.room = cls.folder_of_class()
+        subprocess.run(["git", "clone", "--quiet", places.TOP, os.path.join(cls.room, "clone")], check=True)
+        path = os.pathsep.join(it for it in os.environ["PATH"].split(os.pathsep) if not os.path.exists(f"{it}/rt"))
+        cls.env = commands.environment(PATH=path, CARGO_NET_OFFLINE="true", npm_config_offline="true",
+                                       npm_config_cache=os.path.join(cls.room, "npm"))
 
-    def said(self, words, *folder):
-        return commands.said(words, cwd=os.path.join(self.room, *folder), env=self.env)
+    @classmethod
+    def said(cls, words, *folder):
+        return commands.said(words, cwd=os.path.join(cls.room, *folder), env=cls.env)
 
 
 @needs.programs("git", "cargo", "cc")
@@ -78,7 +78,7 @@ class Wheel(Clone):
         status, told = self.said(["/usr/bin/python3", "-m", "venv", "--system-site-packages", place])
         self.skip_for(status and "venv isn't installed (Debian package python3-venv)")
         alone = ["unshare", "-n"] if os.geteuid() == 0 and needs.has("unshare") else []
-        words = [f"{place}/bin/pip", "install", "--no-index", "--no-build-isolation", "."]
+        words = ["env", "CFLAGS=-O1", f"{place}/bin/pip", "install", "--no-index", "--no-build-isolation", "."]
         status, told = self.said([*alone, *words], "clone")
         self.assertEqual(status, 0, told)
         told = self.said([f"{place}/bin/python3", "-c", "import ecc200; print(ecc200.__file__)"])
@@ -92,15 +92,17 @@ class Wheel(Clone):
 @needs.toolchain
 @needs.programs("node", "npm")
 class Node(Clone):
-    def setUp(self):
-        super().setUp()
-        self.user = os.path.join(self.room, "user")
-        os.makedirs(self.user)
-        status, told = self.said(["npm", "pack", "--silent", places.path("web", "out")])
-        self.assertEqual((status, told), (0, f"ecc200-{VERSION}.tgz\n"))
-        with open(os.path.join(self.user, "package.json"), "w", encoding="ascii") as file:
-            json.dump({"name": "user", "version": "1.0.0"}, file)
-        self.assertEqual(self.said(["npm", "install", "--silent", f"../ecc200-{VERSION}.tgz"], "user"), (0, ""))
+    @classmethod
+    def setUpClass(cls):
+        super().setUpClass()
+        cls.user = os.path.join(cls.room, "user")
+        os.makedirs(cls.user)
+        cls.packed = cls.said(["npm", "pack", "--silent", places.path("web", "out")])
+        places.wrote(json.dumps({"name": "user", "version": "1.0.0"}), cls.user, "package.json")
+        cls.installed = cls.said(["npm", "install", "--silent", f"../ecc200-{VERSION}.tgz"], "user")
+
+    def test_it_is_packed_and_installed(self):
+        self.assertEqual((self.packed, self.installed), ((0, f"ecc200-{VERSION}.tgz\n"), (0, "")))
 
     def test_it_is_imported(self):
         asked = 'import { readGrid, write } from "ecc200"; console.log(readGrid(write("123456")).text)'
