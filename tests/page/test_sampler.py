@@ -61,19 +61,18 @@ class Sampler(Case):
         if not all(pictures for _, pictures in sets):
             self.skipTest("no photographs can be made (python3-opencv or python3-numpy isn't installed)")
         self.assertIsNone(needs.made("sampler"))
-        pictures = [self.in_grey(folder / picture["file"]) for folder, some in sets for picture in some]
+        pictures = self.in_grey([folder / picture["file"] for folder, some in sets for picture in some])
         there = [natively(file) for file in pictures]
         for file, some, others in zip(pictures, found([{"file": str(file), "most": 64} for file in pictures]), there):
             self.row(file.name, ([differing(*each) for each in zip(some["symbols"], others)], len(some["symbols"]),
                                  some["isComplete"]), ([[]] * len(others), len(others), others.complete))
         self.assertGreaterEqual(sum(map(len, there)), len(pictures) * 3 // 4, "symbols that are compared")
 
-    def in_grey(self, file):
-        """A picture as PGM."""
-        to = file.with_suffix(".pgm")
-        words = "import cv2, sys; cv2.imwrite(sys.argv[2], cv2.imread(sys.argv[1], 0))"
-        subprocess.run([DEBIANS, "-c", words, file, to], check=True, timeout=60)
-        return to
+    def in_grey(self, files):
+        """Pictures as PGM."""
+        words = "import cv2, sys\nfor it in sys.argv[1:]: cv2.imwrite(f'{it}.pgm', cv2.imread(it, 0))"
+        subprocess.run([DEBIANS, "-c", words, *files], check=True, timeout=600)
+        return [pathlib.Path(f"{file}.pgm") for file in files]
 
     def test_pictures_of_any_size(self):
         sizes = [(0, 0), (0, 5), (32768, 1), (1, 32768), (1, 1), (2, 2), (1, 32767), (32767, 1), (7, 9)]
@@ -103,7 +102,8 @@ class Sampler(Case):
     def test_a_stack_that_runs_over_traps(self):
         """With a stack that is too small nothing else is written over: the call ends with an error of WebAssembly."""
         small = os.path.join(self.folder(), "small.wasm")
-        made = commands.run([places.path("web", "build_sampler"), small], env=commands.environment(STACK="65536"))
+        env = commands.environment(STACK="65536", CFLAGS="-O0")
+        made = commands.run([places.path("web", "build_sampler"), small], env=env)
         self.row("it is built", made.status, 0)
         (answer,) = found([{"width": 400, "height": 300, "kind": "squares"}], small)
         self.row("what is thrown", answer.get("thrown"), "RuntimeError: memory access out of bounds")
