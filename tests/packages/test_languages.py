@@ -73,7 +73,7 @@ class Crate(Clone):
 @needs.module("PIL")
 class Wheel(Clone):
     def test_pip_installs_the_clone(self):
-        """Without network, by the system's setuptools, where the library isn't built."""
+        """Without network, by the system's setuptools, where the library isn't built; with -O1, which is quicker."""
         place = os.path.join(self.room, "place")
         status, told = self.said(["/usr/bin/python3", "-m", "venv", "--system-site-packages", place])
         self.skip_for(status and "venv isn't installed (Debian package python3-venv)")

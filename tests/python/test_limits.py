@@ -69,7 +69,7 @@ class Limits(PackageCase):
         Image.new("RGBA", (2500, 2500)).save(os.path.join(here, "large.png"), compress_level=1)
         picture_of(b"last").save(os.path.join(here, "z.png"))
         outputs = set()
-        for limit in range(60_000, 330_000, 30_000):
+        for limit in range(60_000, 340_000, 28_000):
             if shell(f"ulimit -v {limit}; $E read a.png", here)[0]:
                 continue  # there is too little for the smallest
             for jobs in ("1", "3"):

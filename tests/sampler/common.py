@@ -1,5 +1,5 @@
-"""What the cases of the sampler share: it as it is built here, and once with the sanitisers; and searches by its shared
-library, called from C, that may do more work than usual, or less."""
+"""What the cases of the sampler share: it is built once as it is, and once with the sanitisers; and searches by its
+shared library, called from C, that may do more work than usual, or less."""
 import json
 import os
 
@@ -19,20 +19,17 @@ def missing():
 
 class SamplerCase(Rows):
     sources = places.path("sampler")
-    is_built = False  # whether what is to be tested has just been built
+    made = None  # a folder in which the sampler lies already that is to be tested
 
     @classmethod
     def setUpClass(cls):
         cls.lacking = missing()
         if cls.lacking:
             return
-        cls.room, cls.builds, cls.sanitised = cls.folder_of_class(), [], None
-        cls.plain = places.path("sampler", "out")
-        if places.OTHER_LIBRARY and not cls.is_built:
-            cls.plain = os.path.dirname(cls.built(os.path.join(cls.room, "plain")))
-        elif problem := not cls.is_built and needs.made("sampler"):
-            raise AssertionError(problem)
-        cls.sampler = os.path.join(cls.plain, "dm_sample")
+        cls.room, cls.builds = cls.folder_of_class(), []
+        cls.plain = cls.made or os.path.join(cls.room, "plain")
+        cls.sampler = os.path.join(cls.made, "dm_sample") if cls.made else cls.built(cls.plain, "-Werror")
+        cls.sanitised = None
 
     @classmethod
     def built(cls, folder, *flags, **more):
@@ -45,10 +42,10 @@ class SamplerCase(Rows):
 
     @property
     def careful(self):
-        """The sampler with the sanitisers, built without a warning at first use; its library shows all that it has."""
+        """The sampler with the sanitisers, built when it is first asked for; its library shows all that it has."""
         kind = type(self)
-        kind.sanitised = kind.sanitised or kind.built(os.path.join(kind.room, "careful"), "-Werror", "-g1", "-O1",
-                                                      *CAREFUL, CFLAGS="-fvisibility=default")
+        kind.sanitised = kind.sanitised or kind.built(os.path.join(kind.room, "careful"), "-g1", "-O1", *CAREFUL,
+                                                      CFLAGS="-fvisibility=default")
         return kind.sanitised
 
     def careful_run(self, source, *words):

@@ -22,4 +22,5 @@ UNPROVED = ("Nothing was proved here. What was tested is made of compiled/, whic
 def prepare():
     """Fewer hostile rounds than the gate takes, and the sampler that is built."""
     importlib.import_module("tests.library.test_systems").Here.rounds = ROUNDS
-    importlib.import_module("tests.sampler.common").SamplerCase.is_built = True
+    sampler = importlib.import_module("tests.sampler.common")
+    sampler.SamplerCase.made = sampler.places.path("sampler", "out")
