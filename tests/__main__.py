@@ -17,7 +17,7 @@ import sys
 import unittest
 
 from tests.support import lanes, places, users
-from tests.support.tally import Tally, times
+from tests.support.tally import Tally
 
 PROOFS = places.path("tests", "proofs")
 # The status of a run that was to prove, and passed without the toolchain.
@@ -40,6 +40,18 @@ def cases_of(loader, name):
     return loader.loadTestsFromName(".".join(parts))
 
 
+def chosen(given, early):
+    """Gives the cases that are asked for, but for those that run early."""
+    is_lane, left_out = given.lane is not None, tuple(f"tests.{name}." for name in early)
+    names = sys.stdin.read().split() if is_lane else given.names or (users.CASES if given.users else [])
+    dear = users.DEAR if given.users and not is_lane else ()
+    cases = unittest.TestSuite(it for it in lanes.cases_of(found(names, given.k))
+                               if it.id().split(".")[-1] not in dear and not it.id().startswith(left_out))
+    if not cases.countTestCases():
+        print(f"no case has {' or '.join(given.k) or 'this'} in its name", file=sys.stderr)
+    return cases
+
+
 def prove(tally):
     """Runs tests/proofs, adds the counts of its last line, and tells its processor time. Whether all of it passed."""
     if not shutil.which("rt"):
@@ -52,8 +64,10 @@ def prove(tally):
             print(line, end="", flush=True)
             if counts := re.fullmatch(r"(\d+) passed, (\d+) failed\n", line):
                 counted = int(counts[1]), int(counts[2])
+        _, status, used = os.wait4(run.pid, 0)
+        run.returncode = os.waitstatus_to_exitcode(status)
     passed, failed = counted
-    tally.say(f"proofs: of a processor {times()[1]:.0f} s")
+    tally.say(f"proofs: of a processor {used.ru_utime + used.ru_stime:.0f} s")
     tally.passed += passed
     tally.failed += max(failed, 1) if run.returncode or not passed else 0
     return not tally.failed
@@ -90,19 +104,17 @@ def main():
     if given.users:
         tally.closing = users.UNPROVED
         users.prepare()
+    early = lanes.BESIDE if given.proofs and given.j > 1 and not (given.names or given.k) else ()
     try:
-        # (some modules build the library when they are loaded, which takes what is proved then)
-        is_proved = not given.proofs or prove(tally)
-        names = sys.stdin.read().split() if is_lane else given.names or (users.CASES if given.users else [])
-        cases = found(names, given.k)
-        if given.users and not is_lane:
-            cases = unittest.TestSuite(it for it in lanes.cases_of(cases) if it.id().split(".")[-1] not in users.DEAR)
-        if not cases.countTestCases():
-            print(f"no case has {' or '.join(given.k) or 'this'} in its name", file=sys.stderr)
-        if is_proved:
-            lanes.run(cases, tally, 1 if is_lane else given.j, ["--users"] * given.users)
-        else:
-            tally.leave_out(cases, "the proofs failed")
+        with lanes.Lanes({"beside": early} if early else {}, [], 1) as beside:
+            # (some modules build the library when they are loaded, which takes what is proved then)
+            is_proved = not given.proofs or prove(tally)
+            cases = chosen(given, early)
+            if is_proved:
+                lanes.run(cases, tally, 1 if is_lane else given.j, ["--users"] * given.users)
+            else:
+                tally.leave_out(cases, "the proofs failed")
+            beside.tell(tally)
     except KeyboardInterrupt:
         tally.say("broken off by a signal")
         tally.failed += 1

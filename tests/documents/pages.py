@@ -47,35 +47,29 @@ def calls_without_a_promise():
         yield from (names for names, *_ in re.findall(LINK, CALL.sub("", item)))
 
 
-def output_of(script):
+def headed(script, of):
+    """What a script prints: by what `of` gives for a line that isn't indented, the lines that stand below."""
     status, output = commands.said([places.path("tools", script)])
     if status:
         raise AssertionError(output)
-    return output.splitlines()
+    found, last = {}, None
+    for line in output.splitlines():
+        last = last if line.startswith("    ") else found.setdefault(of(line), [])
+        last += [line.strip()] if line.startswith("    ") else []
+    return found
 
 
 @functools.cache
 def listed():
     """What tools/definitions prints: by a file, a folder or a crate before a colon, the lines that stand below."""
-    found, last = collections.defaultdict(list), None
-    for line in output_of("definitions"):
-        if not line.startswith("    "):
-            last = line.partition(": ")[0]
-        found[last] += [line.strip()] if line.startswith("    ") else []
-    return {heading: " ".join(lines) for heading, lines in found.items()}
+    return {heading: " ".join(lines) for heading, lines
+            in headed("definitions", lambda it: it.partition(": ")[0]).items()}
 
 
 @functools.cache
 def printed():
     """What tools/clauses prints: by file, line and name, the lines that stand below."""
-    found, last = collections.defaultdict(list), None
-    for line in output_of("clauses"):
-        if line.startswith("    "):
-            found[last].append(line.strip())
-        else:
-            last = tuple(re.fullmatch(r"(\S+?)(?::(\d+))?: (.+)", line).groups())
-            found[last] += []
-    return dict(found)
+    return headed("clauses", lambda it: re.fullmatch(r"(\S+?)(?::(\d+))?: (.+)", it).groups())
 
 
 def promises_of_clauses():

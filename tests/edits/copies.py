@@ -1,18 +1,15 @@
 """Tries the wrong bodies in crates/*/must-fail, those of a crate together: the prover has to refuse each.
 
-`rt must-fail` tries these edits one at a time, over a proof of the whole crate. Here wrong bodies stand in a copy of
-the crate, each as a function of its own beside the function whose contract and proof it has, and the check is asked for
-these functions alone. A method of a trait can't stand beside itself, so its wrong body takes its place. Where an edit
-changes several functions, each one is tried by itself; edits of one function may share a body, if must-fail/goals.md
-says so. The crates below are taken as proved last.
+`rt must-fail` tries these edits one at a time, over a proof of the whole crate. Here each stands in a copy of the crate
+as a function of its own, beside the one whose contract and proof it has, and the check is asked for these alone; but a
+method of a trait takes its place, and edits of one function may share a body, if must-fail/goals.md says so.
 
 must-fail/goals.md names the goal whose answer refuses an edit. This answer, or the tactic by which the right body's is
 found, stands in a module below the file of answers. From that file the toolchain takes what goals to make, but it
 imports what isn't there: so no other goal is tried, and no proof is put together.
 
 Nothing else is proved in the copy, since tests/proofs does that: each other function is an endless loop there, and a
-hole stands for its proof and for that of each lemma. The check goes on past it, so that a lemma is taken by what it
-states, and what a wrong body calls by its contract."""
+hole stands for its proof and for that of each lemma, which are taken by what they state."""
 import collections
 import functools
 import glob

@@ -57,58 +57,35 @@ class Unprepared(Case):
 '''
 
 
-# A case that waits, in a folder whose name it tells.
-SLOW = '''
-import time
+# A case by itself, whose body follows.
+ALONE = '''
+import os, subprocess, sys, time
 from tests.support.case import Case
 
 
-class Slow(Case):
-    def test_waiting(self):
+class Alone(Case):
+    def test_alone(self):
+'''
+# It waits, in a folder whose name it tells.
+SLOW = ALONE + """\
         print(self.folder(), flush=True)
         time.sleep(60)
-'''
-
-# A case whose work a child does.
-BUSY = '''
-import subprocess
-import sys
-from tests.support.case import Case
-
-
-class Busy(Case):
-    def test_working(self):
+"""
+# A child does its work.
+BUSY = ALONE + """\
         subprocess.run([sys.executable, "-c", "import time\\nwhile time.process_time() < 1: pass"], check=True)
-'''
-
-
-# A case that waits until the case of another subject has begun.
-MEETING = '''
-import os
-import time
-from tests.support.case import Case
-
-
-class Meeting(Case):
-    def test_both_have_begun(self):
+"""
+# It waits until the case of another subject has begun.
+MEETING = ALONE + """\
         open("{own}", "w").close()
         until = time.monotonic() + 60
         while not os.path.exists("{other}") and time.monotonic() < until:
             time.sleep(0.01)
         self.row("the other", os.path.exists("{other}"), True)
         self.row("a row that is wrong", "{own}", "first")
-'''
-
-# A case whose process ends.
-LOST = '''
-import os
-from tests.support.case import Case
-
-
-class Lost(Case):
-    def test_ending(self):
-        os._exit(7)
-'''
+"""
+# Its process ends.
+LOST = ALONE + "        os._exit(7)"
 
 
 class Runner(Case):
@@ -138,9 +115,9 @@ class Runner(Case):
                                      env=commands.environment(**more))
         return status, said.splitlines()
 
-    def subject(self, name, text):
+    def subject(self, name, text, module=None):
         self.write(f"tests/{name}/__init__.py", "")
-        self.write(f"tests/{name}/test_{name}.py", text)
+        self.write(f"tests/{name}/{module or f'test_{name}'}.py", text)
         self.addCleanup(shutil.rmtree, os.path.join(self.top, "tests", name))
 
     def proofs(self, script):
@@ -169,7 +146,7 @@ class Runner(Case):
     def test_the_processor_time_of_a_class_is_told_with_that_of_its_children(self):
         self.subject("busy", BUSY)
         said = "\n".join(self.ran("busy")[1])
-        of_class = re.search(r"busy.test_busy.Busy: 1 passed, [\d.]+ s, of a processor ([\d.]+) s", said)
+        of_class = re.search(r"busy.test_busy.Alone: 1 passed, [\d.]+ s, of a processor ([\d.]+) s", said)
         of_all = re.search(r"(?m)^all of it: of a processor (\d+) s$", said)
         self.row("of the class", float(of_class[1]) >= 1, True)
         self.row("of all", float(of_all[1]) >= 1, True)
@@ -190,8 +167,8 @@ class Runner(Case):
         status, said = self.ran("-j", "2", "second", "first", "sample.test_sample.Cases.test_without_rows")
         self.row("the last line", (status, said[-1]), (1, "4 passed, 1 failed, 0 skipped"))
         self.row("in order", [re.sub(" passed.*", "", line) for line in said[:-2]], [
-            "FAILED tests.second.test_second.Meeting.test_both_have_begun: a row that is wrong: 'second', and not "
-            "'first'", "second.test_second.Meeting: 1", "first.test_first.Meeting: 2", "sample.test_sample.Cases: 1"])
+            "FAILED tests.second.test_second.Alone.test_alone: a row that is wrong: 'second', and not "
+            "'first'", "second.test_second.Alone: 1", "first.test_first.Alone: 2", "sample.test_sample.Cases: 1"])
 
     def test_side_by_side_the_same_is_counted(self):
         self.subject("busy", BUSY)
@@ -223,6 +200,14 @@ class Runner(Case):
     def test_proofs_are_counted(self):
         status, said = self.ran("--proofs", "-k", "without", **self.proofs("echo '7 passed, 0 failed'"))
         self.assertEqual((status, said[-1]), (0, "8 passed, 0 failed, 0 skipped"))
+
+    def test_what_stands_on_no_proof_runs_beside_the_proofs(self):
+        for path in ("documents/test_texts", "gate/test_own", "tables/test_made", "packages/test_clean"):
+            subject, name = path.split("/")
+            self.subject(subject, MEETING.format(own=name, other="proving"), name)
+        until = "for turn in $(seq 600); do [ ! -e test_clean ] || break; sleep 0.1; done; [ -e test_clean ]"
+        status, said = self.ran("--proofs", **self.proofs(f"touch proving; {until} && echo '7 passed, 0 failed'"))
+        self.row("the last line", (status, said[-1]), (1, "17 passed, 8 failed, 2 skipped"))
 
     def test_where_a_proof_fails_the_cases_are_left_out(self):
         for script, last in (("echo '6 passed, 2 failed'; exit 1", "6 passed, 2 failed, 1 skipped"),

@@ -74,16 +74,13 @@ def print_():
 def dropped():
     """Text can be dropped into the message, and pictures anywhere."""
     write("123456")
-    drop("#facts", text="dropped")
-    settle()
-    expect("text is dropped", verdict(), ("Read", "dropped"))
-    run("const m = document.getElementById('message'); m.focus(); m.setSelectionRange(0, 0)")
-    drop("#message", text="now ")
-    settle()
-    expect("text is dropped into the message", verdict(), ("Read", "now dropped"))
-    drop("#facts", text=written("a grid"))
-    settle()
-    expect("a grid is dropped", (is_seen("pane-read"), verdict()), (True, ("Read", "a grid")))
+    for name, target, text, wanted in (("text", "#facts", "dropped", "dropped"),
+                                       ("text into the message", "#message", "now ", "now dropped"),
+                                       ("a grid", "#facts", written("a grid"), "a grid")):
+        run("const m = document.getElementById('message'); m.focus(); m.setSelectionRange(0, 0)")
+        drop(target, text=text)
+        settle()
+        expect(f"dropped: {name}", (is_seen("pane-read"), verdict()), (name == "a grid", ("Read", wanted)))
     drop("body", [("dropped.png", "image/png", png(written("a picture").split("\n"), 3, 2))])
     soon("a picture is dropped", verdict, ("Read", "a picture"))
 

@@ -4,6 +4,7 @@ import concurrent.futures
 import contextlib
 import functools
 import os
+import re
 import resource
 import subprocess
 import tempfile
@@ -179,13 +180,22 @@ def in_session(session):
     return [line for line in listed if line.split()[0] == str(session) and not line.split()[1].startswith("Z")]
 
 
+def catches(pid, number):
+    """Whether a process has said what it does at a signal; before that it ends without a word."""
+    caught = re.search(r"^SigCgt:\s*(\w+)$", places.text_of(f"/proc/{pid}/status"), re.M)[1]
+    return int(caught, 16) >> number - 1 & 1
+
+
 def signalled(block, given, wanted, number, to_all, delay):
-    """A recipe that gets a signal after so many seconds, or all its processes; delay None: once an answer has come."""
+    """A recipe that gets a signal so many seconds after it can catch that, or all its processes; delay None: once an
+    answer has come."""
     with tempfile.TemporaryDirectory() as folder:
         put(folder, given)
         run = subprocess.Popen(["sh", "-c", "exec " + block.split("\n")[1]], cwd=folder, start_new_session=True,
                                env=environment(folder, is_first=delay is not None), stdin=subprocess.DEVNULL,
                                stdout=subprocess.PIPE, stderr=subprocess.PIPE)
+        while not catches(run.pid, number) and run.poll() is None:
+            time.sleep(0.001)
         answers = os.read(run.stdout.fileno(), 100) if delay is None else time.sleep(delay) or b""
         (os.killpg if to_all else os.kill)(run.pid, number)
         more, said = run.communicate(timeout=60)

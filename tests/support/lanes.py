@@ -18,6 +18,9 @@ TOGETHER = {"packages": "page"}
 # Lanes that take longest, which begin first. (That of edits is as long as half of the others. Two provers side by side
 # would take a tenth more, since they contend for memory.)
 LONGEST = ("edits", "page", "sampler", "scale", "library")
+# What stands on nothing that is proved or built in this checkout: one lane, beside the proofs, which use one processor
+# most of the time.
+BESIDE = ("documents", "gate", "tables", "packages.test_clean")
 
 
 def cases_of(suite):
@@ -46,29 +49,33 @@ def run(suite, tally, count, words):
         return
     unittest.TestSuite(lanes.pop(None, ())).run(tally)
     tally.end_class()
-    Lanes(lanes, words).run(tally, count)
+    with Lanes({name: [case.id() for case in cases] for name, cases in lanes.items()}, words, count) as begun:
+        begun.tell(tally)
 
 
-class Lanes:
-    def __init__(self, lanes, words):
-        self.names = {name: [case.id() for case in cases] for name, cases in lanes.items()}
-        self.reports = {name: queue.SimpleQueue() for name in lanes}
-        self.words, self.processes = words, []
+class Lanes(contextlib.AbstractContextManager):
+    """Lanes that begin at once, so many at a time, by the names of their cases."""
 
-    def run(self, tally, count):
-        with ThreadPoolExecutor(count) as pool:
-            try:
-                for name in sorted(self.names, key=lambda it: LONGEST.index(it) if it in LONGEST else len(LONGEST)):
-                    pool.submit(self.run_lane, name)
-                for name, reports in self.reports.items():
-                    for report in iter(reports.get, None):
-                        tally.take(*report)
-            except KeyboardInterrupt:
-                pool.shutdown(wait=False, cancel_futures=True)
-                for process in self.processes:
-                    with contextlib.suppress(ProcessLookupError):
-                        os.killpg(process.pid, signal.SIGTERM)  # what it has started ends with it
-                raise
+    def __init__(self, names, words, count):
+        self.names, self.words, self.processes = names, words, []
+        self.reports = {name: queue.SimpleQueue() for name in names}
+        self.pool = ThreadPoolExecutor(count)
+        for name in sorted(names, key=lambda it: LONGEST.index(it) if it in LONGEST else len(LONGEST)):
+            self.pool.submit(self.run_lane, name)
+
+    def __exit__(self, kind, *_):
+        if kind:
+            self.pool.shutdown(wait=False, cancel_futures=True)
+            for process in self.processes:
+                with contextlib.suppress(ProcessLookupError):
+                    os.killpg(process.pid, signal.SIGTERM)  # what it has started ends with it
+        self.pool.shutdown()
+
+    def tell(self, tally):
+        """Tells and counts what becomes of them, until the last has ended."""
+        for reports in self.reports.values():
+            for report in iter(reports.get, None):
+                tally.take(*report)
 
     def run_lane(self, name):
         """Runs a lane in a process of its own, which reports what becomes of each class."""
