@@ -52,8 +52,9 @@ def chosen(given, early):
     return cases
 
 
-def prove(tally):
-    """Runs tests/proofs, adds the counts of its last line, and tells its processor time. Whether all of it passed."""
+def prove(tally, beside):
+    """Runs tests/proofs, adds the counts of its last line, and tells its processor time; what may run beside it begins
+    once it leaves a processor. Whether all of it passed."""
     if not shutil.which("rt"):
         tally.left_out["the Rattle toolchain (rt) isn't on the path, so nothing is proved"].append("tests.proofs")
         return True
@@ -62,6 +63,8 @@ def prove(tally):
     with subprocess.Popen([PROOFS], **how) as run:
         for line in run.stdout:
             print(line, end="", flush=True)
+            if line == lanes.ONE_BY_ONE:
+                beside.begin()
             if counts := re.fullmatch(r"(\d+) passed, (\d+) failed\n", line):
                 counted = int(counts[1]), int(counts[2])
         _, status, used = os.wait4(run.pid, 0)
@@ -108,7 +111,7 @@ def main():
     try:
         with lanes.Lanes({"beside": early} if early else {}, [], 1) as beside:
             # (some modules build the library when they are loaded, which takes what is proved then)
-            is_proved = not given.proofs or prove(tally)
+            is_proved = not given.proofs or prove(tally, beside)
             cases = chosen(given, early)
             if is_proved:
                 lanes.run(cases, tally, 1 if is_lane else given.j, ["--users"] * given.users)

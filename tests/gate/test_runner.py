@@ -66,16 +66,15 @@ from tests.support.case import Case
 class Alone(Case):
     def test_alone(self):
 '''
-# It waits, in a folder whose name it tells.
+# It waits, in a folder whose name it tells; a child works; it waits until the case of another subject has begun; its
+# process ends.
 SLOW = ALONE + """\
         print(self.folder(), flush=True)
         time.sleep(60)
 """
-# A child does its work.
 BUSY = ALONE + """\
         subprocess.run([sys.executable, "-c", "import time\\nwhile time.process_time() < 1: pass"], check=True)
 """
-# It waits until the case of another subject has begun.
 MEETING = ALONE + """\
         open("{own}", "w").close()
         until = time.monotonic() + 60
@@ -84,7 +83,6 @@ MEETING = ALONE + """\
         self.row("the other", os.path.exists("{other}"), True)
         self.row("a row that is wrong", "{own}", "first")
 """
-# Its process ends.
 LOST = ALONE + "        os._exit(7)"
 
 
@@ -202,11 +200,12 @@ class Runner(Case):
         self.assertEqual((status, said[-1]), (0, "8 passed, 0 failed, 0 skipped"))
 
     def test_what_stands_on_no_proof_runs_beside_the_proofs(self):
-        for path in ("documents/test_texts", "gate/test_own", "tables/test_made", "packages/test_clean"):
-            subject, name = path.split("/")
+        for subject, name in (("documents", "test_texts"), ("gate", "test_own"), ("tables", "test_made"),
+                              ("packages", "test_clean")):
             self.subject(subject, MEETING.format(own=name, other="proving"), name)
         until = "for turn in $(seq 600); do [ ! -e test_clean ] || break; sleep 0.1; done; [ -e test_clean ]"
-        status, said = self.ran("--proofs", **self.proofs(f"touch proving; {until} && echo '7 passed, 0 failed'"))
+        proofs = f"touch proving; echo 'rt: dm_code proved'; {until} && echo '7 passed, 0 failed'"
+        status, said = self.ran("--proofs", **self.proofs(proofs))
         self.row("the last line", (status, said[-1]), (1, "17 passed, 8 failed, 2 skipped"))
 
     def test_where_a_proof_fails_the_cases_are_left_out(self):

@@ -26,12 +26,10 @@ def misjoined():
         ("(05)123", "Column 1 begins (05), which is no identifier of GS1’s table.", "\\x2805)123"),
         ("[05]123", "Column 1 begins (05), which is no identifier of GS1’s table.", "\\x5B05]123"),
         ("(5)a", "Column 1 begins (5), which is no identifier of GS1’s table.", "\\x285)a"),
-        ("(O1)09506000134352", "Column 1 opens a bracket that holds no identifier, such as (01).",
-         "\\x28O1)09506000134352"),
-        ("(", "Column 1 opens a bracket that holds no identifier, such as (01).", "\\x28"),
-        ("(01", "Column 1 opens a bracket that holds no identifier, such as (01).", "\\x2801"),
-        ("(10)AB(17", "Column 7 opens a bracket that holds no identifier, such as (01).", "(10)AB\\x2817"),
-        ("(10)A(B)", "Column 6 opens a bracket that holds no identifier, such as (01).", "(10)A\\x28B)"),
+        *((text, f"Column {column} opens a bracket that holds no identifier, such as (01).", plain)
+          for text, column, plain in (
+              ("(O1)09506000134352", 1, "\\x28O1)09506000134352"), ("(", 1, "\\x28"), ("(01", 1, "\\x2801"),
+              ("(10)AB(17", 7, "(10)AB\\x2817"), ("(10)A(B)", 6, "(10)A\\x28B)"))),
     ):
         write(text)
         expect(f"{text} is said", (shown()["state"], text_of("message-hint").startswith(why)), (NOTHING, True))

@@ -1,5 +1,6 @@
 """Runs cases side by side. Those of a subject are a lane: one after another, in a process of its own. So many lanes run
 at a time as are asked for, and what becomes of each is told in the order in which they stand."""
+import collections
 import contextlib
 import json
 import os
@@ -18,9 +19,9 @@ TOGETHER = {"packages": "page"}
 # Lanes that take longest, which begin first. (That of edits is as long as half of the others. Two provers side by side
 # would take a tenth more, since they contend for memory.)
 LONGEST = ("edits", "page", "sampler", "scale", "library")
-# What stands on nothing that is proved or built in this checkout: one lane, beside the proofs, which use one processor
-# most of the time.
-BESIDE = ("documents", "gate", "tables", "packages.test_clean")
+# What stands on nothing that is proved or built in this checkout: one lane, which begins when this is said, since from
+# then on proofs take one processor most of the time.
+BESIDE, ONE_BY_ONE = ("documents", "gate", "tables", "packages.test_clean"), "rt: dm_code proved\n"
 
 
 def cases_of(suite):
@@ -34,34 +35,32 @@ def lane_of(case):
     return TOGETHER.get(subject, subject) if top == "tests" else None
 
 
-def lanes_of(suite):
-    lanes = {}
-    for case in cases_of(suite):
-        lanes.setdefault(lane_of(case), []).append(case)
-    return lanes
-
-
 def run(suite, tally, count, words):
     """Runs a suite in so many lanes at a time, or here if it has but one, by the words of a run that hold there."""
-    lanes = lanes_of(suite)
+    lanes = collections.defaultdict(list)
+    for case in cases_of(suite):
+        lanes[lane_of(case)].append(case)
     if count < 2 or len(lanes) < 2:
         suite.run(tally)
         return
     unittest.TestSuite(lanes.pop(None, ())).run(tally)
     tally.end_class()
-    with Lanes({name: [case.id() for case in cases] for name, cases in lanes.items()}, words, count) as begun:
-        begun.tell(tally)
+    with Lanes({name: [case.id() for case in cases] for name, cases in lanes.items()}, words, count) as all_of_them:
+        all_of_them.tell(tally)
 
 
 class Lanes(contextlib.AbstractContextManager):
-    """Lanes that begin at once, so many at a time, by the names of their cases."""
+    """Lanes by the names of their cases, so many at a time."""
 
     def __init__(self, names, words, count):
         self.names, self.words, self.processes = names, words, []
         self.reports = {name: queue.SimpleQueue() for name in names}
+        self.waiting = sorted(names, key=lambda it: (*LONGEST, it).index(it))
         self.pool = ThreadPoolExecutor(count)
-        for name in sorted(names, key=lambda it: LONGEST.index(it) if it in LONGEST else len(LONGEST)):
-            self.pool.submit(self.run_lane, name)
+
+    def begin(self):
+        while self.waiting:
+            self.pool.submit(self.run_lane, self.waiting.pop(0))
 
     def __exit__(self, kind, *_):
         if kind:
@@ -73,6 +72,7 @@ class Lanes(contextlib.AbstractContextManager):
 
     def tell(self, tally):
         """Tells and counts what becomes of them, until the last has ended."""
+        self.begin()
         for reports in self.reports.values():
             for report in iter(reports.get, None):
                 tally.take(*report)
