@@ -19,10 +19,6 @@ import unittest
 from tests.support import lanes, places, users
 from tests.support.tally import Tally
 
-PROOFS = places.path("tests", "proofs")
-# The status of a run that was to prove, and passed without the toolchain.
-UNPROVED = 3
-
 
 def found(names, words):
     """Gives the cases with these names, all if there are none, whose names have one of these words or fit a pattern."""
@@ -60,7 +56,7 @@ def prove(tally, beside):
         return True
     counted = (0, 0)
     how = {"stdin": subprocess.DEVNULL, "stdout": subprocess.PIPE, "text": True, "errors": "replace"}
-    with subprocess.Popen([PROOFS], **how) as run:
+    with subprocess.Popen([places.path("tests", "proofs")], **how) as run:
         for line in run.stdout:
             print(line, end="", flush=True)
             if line == lanes.ONE_BY_ONE:
@@ -121,7 +117,7 @@ def main():
     except KeyboardInterrupt:
         tally.say("broken off by a signal")
         tally.failed += 1
-    return tally.end() or (UNPROVED if is_unproved else 0)
+    return tally.end() or (3 if is_unproved else 0)
 
 
 if __name__ == "__main__":

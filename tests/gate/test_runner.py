@@ -127,8 +127,7 @@ class Runner(Case):
 
     def test_rows_are_counted_in_place_of_their_case(self):
         status, said = self.ran()
-        self.row("the last line", said[-1], "6 passed, 4 failed, 2 skipped")
-        self.row("the status", status, 1)
+        self.assertEqual((status, said[-1]), (1, "6 passed, 4 failed, 2 skipped"))
 
     def test_what_failed_and_what_is_left_out_is_named(self):
         told = "\n".join(self.ran()[1])
@@ -176,6 +175,11 @@ class Runner(Case):
             self.row(f"{count} at a time", said[-1], wanted)
             self.row(f"{count} at a time, left out", "left out, since nothing is installed: sample.test_sample.Cases "
                      "(2)" in said, True)
+
+    def test_the_longest_goes_before_the_others(self):
+        for name, relation in (("edits", "=="), ("others", ">")):
+            self.subject(name, ALONE + f"        self.row('nice', os.nice(0) {relation} {os.nice(0)}, True)")
+        self.assertEqual(self.ran("-j", "2", "edits", "others")[0], 0)
 
     def test_a_subject_whose_process_is_lost_has_failed(self):
         self.subject("lost", LOST)

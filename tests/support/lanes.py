@@ -16,8 +16,8 @@ from tests.support.tally import Tally
 
 # Subjects that are in the lane of another, which builds the same files.
 TOGETHER = {"packages": "page"}
-# Lanes that take longest, which begin first. (That of edits is as long as half of the others. Two provers side by side
-# would take a tenth more, since they contend for memory.)
+# Lanes that take longest, which begin first; edits go before all others, since they are as long as half of these. (Two
+# provers side by side would take a tenth more, since they contend for memory.)
 LONGEST = ("edits", "page", "sampler", "scale", "library")
 # What stands on nothing that is proved or built in this checkout: one lane, which begins when this is said, since from
 # then on proofs take one processor most of the time.
@@ -80,7 +80,8 @@ class Lanes(contextlib.AbstractContextManager):
     def run_lane(self, name):
         """Runs a lane in a process of its own, which reports what becomes of each class."""
         reading, writing = os.pipe()
-        words = [sys.executable, "-m", "tests", *self.words, "--lane", str(writing)]
+        first = [] if name == LONGEST[0] else ["nice", "-n", "5"]
+        words = [*first, sys.executable, "-m", "tests", *self.words, "--lane", str(writing)]
         how = {"stdin": subprocess.PIPE, "pass_fds": [writing], "cwd": places.TOP, "start_new_session": True,
                "env": {**os.environ, "PYTHONDONTWRITEBYTECODE": "1"}}
         tell = self.reports[name].put

@@ -14,13 +14,12 @@ DEAR = {f"test_{name}" for name in ("alike", "beside", "beside_zint", "by_thread
                                     "charsets", "chosen", "cpp", "drawn", "files", "first_symbols", "forms", "found",
                                     "grids", "in_words", "made_anew", "no_picture", "otherwise", "python",
                                     "round_trips", "rust", "side_by_side", "strange_grids", "texts")}
-ROUNDS = 1_000
 UNPROVED = ("Nothing was proved here. What was tested is made of compiled/, which library/build made of the proved "
             "source; `make test` proves that, with the toolchain.")
 
 
 def prepare():
     """Fewer hostile rounds than the gate takes, and the sampler that is built."""
-    importlib.import_module("tests.library.test_systems").Here.rounds = ROUNDS
+    importlib.import_module("tests.library.test_systems").Here.rounds = 1_000
     sampler = importlib.import_module("tests.sampler.common")
     sampler.SamplerCase.made = sampler.places.path("sampler", "out")
