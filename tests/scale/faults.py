@@ -187,8 +187,7 @@ def catches(pid, number):
 
 
 def signalled(block, given, wanted, number, to_all, delay):
-    """A recipe that gets a signal so many seconds after it can catch that, or all its processes; delay None: once an
-    answer has come."""
+    """A recipe, or all of its processes, gets a signal so long after it can; delay None: once an answer has come."""
     with tempfile.TemporaryDirectory() as folder:
         put(folder, given)
         run = subprocess.Popen(["sh", "-c", "exec " + block.split("\n")[1]], cwd=folder, start_new_session=True,

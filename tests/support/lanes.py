@@ -19,9 +19,10 @@ TOGETHER = {"packages": "page"}
 # Lanes that take longest, which begin first; edits go before all others, since they are as long as half of these. (Two
 # provers side by side would take a tenth more, since they contend for memory.)
 LONGEST = ("edits", "page", "sampler", "scale", "library")
-# What stands on nothing that is proved or built in this checkout: one lane, which begins when this is said, since from
-# then on proofs take one processor most of the time.
-BESIDE, ONE_BY_ONE = ("documents", "gate", "tables", "packages.test_clean"), "rt: dm_code proved\n"
+# What stands on nothing that is proved or built in this checkout: a lane beside the proofs.
+BESIDE = ("documents", "gate", "tables", "packages.test_clean")
+# It begins when they say this, since from then on they take one processor most of the time.
+ONE_BY_ONE = "rt: dm_code proved\n"
 
 
 def cases_of(suite):
